@@ -82,7 +82,8 @@ def workloads():
 
 
 def without_later(plain, checkout):
-    """A file of the benchmark without the fields of `Request` and of `Field` that an older checkout does not have, and with its name of the task of printing."""
+    """A file of the benchmark without the fields of `Request` and of `Field` that an older checkout does not have, with its name of the task of printing, and with the
+    outputs of its `check`."""
     fields = read(os.path.join(checkout, 'rust', 'ixdtf_check', 'src', 'request.rs'))
     for field, value in LATER_FIELDS.items():
         if f'pub {field}:' not in fields:
@@ -91,6 +92,9 @@ def without_later(plain, checkout):
         plain = plain.replace('Extent, ', '')
     if 'enum Format' not in fields:
         plain = plain.replace('Format, ', '')
+    # In older checkouts, a check has one output.
+    if not os.path.exists(os.path.join(checkout, 'rust', 'ixdtf_check', 'src', 'second.rs')):
+        plain = plain.replace('        &mut reports,\n', '')
     # In older checkouts, only date-times have canonical texts.
     return plain if 'Print(Kind)' in fields else plain.replace('Task::Print(Kind::DateTime)', 'Task::Print')
 

@@ -49,12 +49,19 @@ const THIRD_FIELD: Request<'static> = Request {
     is_quiet: false,
 };
 
-/// Checks `count` lines of the mix, and returns a digest of the counts and the reports.
+/// Checks `count` lines of the mix, and returns a digest of the counts, of what is written, and of the reports that go to the second
+/// output. Only a request that prints canonical texts uses the second output. The digest of no bytes is 0.
 pub fn checked(mix: &mut Mix, count: u64, request: &Request<'_>) -> u64 {
     let mut writer = DigestWriter::new();
-    let checked = check(&mut Feed::new(mix, count), &mut writer, request);
+    let mut reports = DigestWriter::new();
+    let checked = check(
+        &mut Feed::new(mix, count),
+        &mut writer,
+        &mut reports,
+        request,
+    );
     let counts = checked.tally;
-    let digest = writer.finish();
+    let digest = writer.finish().wrapping_add(reports.finish());
     digest
         .wrapping_mul(31)
         .wrapping_add(counts.lines)

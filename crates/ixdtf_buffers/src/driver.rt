@@ -19,9 +19,13 @@ pub trait LineTask<const LIMIT: usize> {
     // A relation of the task before a line, the line, the bytes that the task writes for it, and the task after it.
     ghost step: { Self → List ℕ → List ℕ → Self → Type 0 };
 
+    // What is known after the task ended the run, although no write to the output failed. A task can end the run because it
+    // writes to something else too, and this write failed.
+    ghost ended: { Self → Type 0 };
+
     /// Handles one line, and writes its result to the output. `line` is `None` if the line has more than `LIMIT` bytes.
     ///
-    /// Returns `RunError::Write` if a write fails.
+    /// Returns `RunError::Write` if a write fails, to the output or to something else that the task writes to.
     fn take_line<K: Sink>(
         &mut self,
         output: &mut Output<'_, K>,
@@ -30,7 +34,7 @@ pub trait LineTask<const LIMIT: usize> {
         requires { IfSome line (λ bytes. length bytes.now ≤ LIMIT) }
         ensures same { output.new.sink.ghost_name ≡ output.old.sink.ghost_name }
         ensures takes { (text : List ℕ) → IsLine LIMIT line.entry text
-            → Takes step K.contents K.failed self.old self.new output.old output.new result text };
+            → Takes step ended K.contents K.failed self.old self.new output.old output.new result text };
 }
 
 /// How a run over the lines of a source ended.
@@ -72,8 +76,9 @@ pub fn drive<S: Source, K: Sink, T: LineTask<LIMIT>, const LIMIT: usize>(
         × Reads (S.remaining source.old) (S.remaining source.new) result.bytes (λ bytes.
         Does T.step (K.contents sink.old) (K.contents sink.new) task.old task.new (ended_lines_of bytes)) }
 
-    // A write failed. The task handled the first lines, and a prefix of what it wrote for them is in the sink.
-    ensures write { result.end ≡ Err RunError.Write → K.failed sink.new
+    // A write to the sink failed, or the task ended the run. The task handled the first lines, and a prefix of what it wrote for
+    // them is in the sink.
+    ensures write { result.end ≡ Err RunError.Write → (K.failed sink.new ⊎ T.ended task.new)
         × Reads (S.remaining source.old) (S.remaining source.new) result.bytes (λ bytes.
         DoesFront T.step (K.contents sink.old) (K.contents sink.new) task.old task.new (lines_of bytes)) }
 {
@@ -96,7 +101,7 @@ fn drive_all<S: Source, K: Sink, T: LineTask<LIMIT>, const LIMIT: usize>(
     requires zero { bytes.old ≡ 0 }
     ensures same { output.new.sink.ghost_name ≡ output.old.sink.ghost_name }
     ensures runs { Runs T.step (K.flushed output.new.sink.now)
-        (S.failed source.new ⊎ (2 ^ 64 ≤ bytes.new + LIMIT)) (K.failed output.new.sink.now)
+        (S.failed source.new ⊎ (2 ^ 64 ≤ bytes.new + LIMIT)) (K.failed output.new.sink.now ⊎ T.ended task.new)
         (S.remaining source.old) (S.remaining source.new)
         (written K.contents output.old) (written K.contents output.new) task.old task.new bytes.new result }
 {
@@ -129,7 +134,7 @@ fn take_bytes<K: Sink, T: LineTask<LIMIT>, const LIMIT: usize>(
         → Stands T.step K.contents start first task.old output.old line.old read
         → MatchResult result
         (λ _. Stands T.step K.contents start first task.new output.new line.new (read ++ bytes.now))
-        (Fails T.step (K.failed output.new.sink.now) start (written K.contents output.new) first task.new
+        (Fails T.step (K.failed output.new.sink.now ⊎ T.ended task.new) start (written K.contents output.new) first task.new
         (ended_lines_of (read ++ bytes.now))) }
 {
     let mut rest = bytes;
@@ -155,7 +160,7 @@ fn end_line<K: Sink, T: LineTask<LIMIT>, const LIMIT: usize>(
     ensures same { output.new.sink.ghost_name ≡ output.old.sink.ghost_name }
     ensures empty { (text : List ℕ) → Holds line.old text → Holds line.new [] }
     ensures takes { (text : List ℕ) → Holds line.old text
-        → Takes T.step K.contents K.failed task.old task.new output.old output.new result
+        → Takes T.step T.ended K.contents K.failed task.old task.new output.old output.new result
         (text ++ bytes.now) }
 {
     if line.is_empty() {
@@ -177,7 +182,7 @@ fn end_kept_line<K: Sink, T: LineTask<LIMIT>, const LIMIT: usize>(
     ensures same { output.new.sink.ghost_name ≡ output.old.sink.ghost_name }
     ensures empty { Holds line.new [] }
     ensures takes { (text : List ℕ) → Holds line.old text
-        → Takes T.step K.contents K.failed task.old task.new output.old output.new result
+        → Takes T.step T.ended K.contents K.failed task.old task.new output.old output.new result
         (text ++ bytes.now) }
 {
     line.push_all(bytes);
@@ -199,7 +204,7 @@ fn finish<K: Sink, T: LineTask<LIMIT>, const LIMIT: usize>(
         → MatchResult result
         (λ _. K.flushed output.new.sink.now
         × Does T.step start (written K.contents output.new) first task.new (lines_of read))
-        (Fails T.step (K.failed output.new.sink.now) start (written K.contents output.new) first task.new
+        (Fails T.step (K.failed output.new.sink.now ⊎ T.ended task.new) start (written K.contents output.new) first task.new
         (lines_of read)) }
 {
     if line.is_empty() {

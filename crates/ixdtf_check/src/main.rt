@@ -12,8 +12,9 @@ use ixdtf_checks::column::{ColumnError, column_in_record, column_named};
 use ixdtf_checks::request::{Extent, Request};
 use ixdtf_checks::status::status_of;
 use ixdtf_checks::tally::Tally;
+use std::env::VarError;
 use std::fs::File;
-use std::io::{Eprint, Read};
+use std::io::{Eprint, IsTerminal, Read};
 use std::process::ExitCode;
 use std::{env, fmt};
 use watched::Watched;
@@ -43,16 +44,18 @@ Which part of a line is read:\n\
 \x20 --fields A-B     fields A to B, between which a line has one space\n\
 \x20 --csv            with --field: the lines are records of RFC 4180, with fields in quotes\n\
 \x20 --separator C    the byte between two fields; without this option, it is a tab,\n\
-\x20                  or a comma with --csv\n\
+\x20                  or a comma with --csv, or a space with --fields\n\
 \x20 ixdtf_check --field 3 --separator , table.csv\n\
 \x20 ixdtf_check --header --field time --separator , table.csv\n\
 \x20 ixdtf_check --fields 1-2 server.log\n\
 \x20 ixdtf_check --csv --header --field time table.csv\n\
 \n\
 What is written:\n\
-\x20 --canonical      the canonical text of each accepted text\n\
+\x20 --canonical      the canonical text of each accepted text; then the reports go to\n\
+\x20                  standard error\n\
 \x20 --max-reports N  at most N reports, and the number of the others\n\
 \x20 --format FORMAT  the form of the reports: text (the default), or json\n\
+\x20 --color WHEN     colours in the reports: auto (the default), always or never\n\
 \x20 --quiet          nothing about lines that are refused\n\
 \x20 ixdtf_check --canonical --quiet dates.txt\n\
 \n\
@@ -63,7 +66,7 @@ Other:\n\
 \x20 The file - is standard input.\n\
 \n\
 Exit status: 0 if every line was accepted, 1 if a line was refused, and 2 if an\n\
-argument is wrong, or if a file or standard output failed.";
+argument is wrong, or if a file, standard output or a report failed.";
 
 /// The number of bytes of the longest line that is checked.
 const LONGEST_LINE: usize = 65536;
@@ -79,9 +82,10 @@ struct Outcome {
     most_reports: u64,
     /// Whether refused lines are reported.
     shows_refusals: bool,
-    /// Whether standard output accepts no more bytes.
+    /// Whether standard output accepts no more bytes, or a write of a report to standard error failed.
     is_closed: bool,
-    /// Whether standard output is a pipe that nobody reads. Then the program also writes nothing more to standard error.
+    /// Whether standard output is a pipe that nobody reads, or a write of a report to standard error failed. Then the program also
+    /// writes nothing more to standard error.
     is_quiet: bool,
 }
 
@@ -129,6 +133,12 @@ fn main(rt: HostRuntime) -> ExitCode {
     if let Some(wrong) = options.wrong() {
         return refuse(&rt, wrong.message());
     }
+    let is_terminal = if options.has_two_outputs() {
+        rt.stderr().is_terminal()
+    } else {
+        rt.stdout().is_terminal()
+    };
+    options.settle_color(is_terminal && shows_colors(&rt));
     if has_files {
         check_files(&rt, &options, &mut outcome);
     } else {
@@ -139,7 +149,7 @@ fn main(rt: HostRuntime) -> ExitCode {
         refused,
         bytes,
     } = outcome.total;
-    if !outcome.is_quiet {
+    if !outcome.is_quiet && options.has_counts() {
         let more = outcome.unreported();
         if more > 0 {
             let _ = eprintln!(rt; "{more} more refused lines");
@@ -147,6 +157,21 @@ fn main(rt: HostRuntime) -> ExitCode {
         let _ = eprintln!(rt; "{lines} lines, {refused} refused, {bytes} bytes");
     }
     ExitCode::from(status_of(outcome.has_failed, refused))
+}
+
+/// Returns whether a terminal shows colours, and the user does not forbid them: `NO_COLOR` is not set or is empty, and `TERM` is not
+/// `dumb`.
+fn shows_colors(rt: &HostRuntime) -> bool {
+    let is_forbidden = match env::var(rt, "NO_COLOR") {
+        Ok(value) => !value.as_str().is_empty(),
+        Err(VarError::NotPresent) => false,
+        Err(VarError::NotUnicode | VarError::OutOfMemory) => true,
+    };
+    let is_dumb = match env::var(rt, "TERM") {
+        Ok(value) => value.as_str() == "dumb",
+        Err(VarError::NotPresent | VarError::NotUnicode | VarError::OutOfMemory) => false,
+    };
+    !is_forbidden && !is_dumb
 }
 
 /// Writes a text that an option asks for, such as the usage, to standard output.
@@ -178,7 +203,7 @@ fn point_to_help(rt: &impl Eprint) -> ExitCode {
     ExitCode::from(2)
 }
 
-/// Checks the files that the arguments name, in order, until standard output accepts no more bytes.
+/// Checks the files that the arguments name, in order, until a write fails.
 fn check_files(rt: &HostRuntime, options: &Options, outcome: &mut Outcome) {
     let Ok(words) = env::args(rt) else {
         outcome.has_failed = true;
@@ -266,7 +291,14 @@ fn check_request<R: Read>(
     let mut watched = Watched::new(reader);
     let mut output = rt.stdout();
     let mut watched_output = Watched::new(&mut output);
-    let checked = check_lines(&mut watched, &mut watched_output, &request);
+    let mut reports = rt.stderr();
+    let mut watched_reports = Watched::new(&mut reports);
+    let checked = check_lines(
+        &mut watched,
+        &mut watched_output,
+        &mut watched_reports,
+        &request,
+    );
     outcome.total.add(checked.tally);
     match checked.end {
         Ok(()) => {}
@@ -277,7 +309,7 @@ fn check_request<R: Read>(
         Err(RunError::Write) => {
             outcome.is_closed = true;
             outcome.has_failed = true;
-            outcome.is_quiet = watched_output.is_closed_pipe();
+            outcome.is_quiet = watched_reports.error().is_some() || watched_output.is_closed_pipe();
             if !outcome.is_quiet {
                 complain(rt, "standard output", "cannot be written", outcome);
             }

@@ -3,7 +3,7 @@ use Rattle.std.proofs.Common.{◌≡◌, ℕ, ◌+◌, ◌<◌, List, [], ◌∷
 use Rattle.std.proofs.lemmas.{Grind.flat_map-append, List.{append-nil, take_more, take-append-drop}}
 use Rattle.std.specs.List.{flat_map}
 use Rattle.ixdtf_buffers.specs.{declared.{error.RunError.RunError, output.Output.Output}, Lines.newline, Output.Puts}
-use Rattle.ixdtf_checks.specs.{Json.{json_byte, json_object, json_place, json_string}, Verdicts.Refusal}
+use Rattle.ixdtf_checks.specs.{Json.{json_byte, json_hint, json_object, json_place, json_string}, Verdicts.Refusal}
 
 pub escaped-parts : (bytes : List ℕ) (n : ℕ) → flat_map json_byte bytes ≡ flat_map json_byte (take n bytes) ++ flat_map json_byte (drop n bytes)
 escaped-parts bytes n = sym (sym (flat_map-append json_byte (take n bytes) (drop n bytes)) ∙ ap (flat_map json_byte) (take-append-drop n bytes))
@@ -24,17 +24,17 @@ string-parts before shown after =
 -- An object and a newline.
 pub object-line : (name : List ℕ) (number : ℕ) (refusal : Refusal) →
     (codes "{\"file\":" ++ json_string name) ++ (json_place number refusal.column refusal.end
-    ++ ((codes ",\"reason\":" ++ json_string refusal.reason) ++ (codes ",\"text\":" ++ (json_string refusal.message ++ codes "}\n"))))
+    ++ ((codes ",\"reason\":" ++ json_string refusal.reason) ++ (codes ",\"text\":" ++ (json_string refusal.message ++ (json_hint refusal.hint ++ codes "}\n")))))
     ≡ json_object name number refusal ++ newline ∷ []
 object-line name number refusal =
     let file = codes "{\"file\":" ++ json_string name in
     let place = json_place number refusal.column refusal.end in
     let reason = codes ",\"reason\":" ++ json_string refusal.reason in
     let text = codes ",\"text\":" in
-    sym (joined file place reason text (json_string refusal.message) (codes "}") (newline ∷ []))
+    sym (joined file place reason text (json_string refusal.message) (json_hint refusal.hint) (codes "}") (newline ∷ []))
   where
-    joined : (a b c d e f g : List ℕ) → (a ++ (b ++ (c ++ ((d ++ e) ++ f)))) ++ g ≡ a ++ (b ++ (c ++ (d ++ (e ++ (f ++ g)))))
-    joined a b c d e f g = simp (append_assoc)
+    joined : (a b c d e h f g : List ℕ) → (a ++ (b ++ (c ++ ((d ++ e) ++ (h ++ f))))) ++ g ≡ a ++ (b ++ (c ++ (d ++ (e ++ (h ++ (f ++ g))))))
+    joined a b c d e h f g = simp (append_assoc)
 
 -- The bytes are the same.
 pub Puts-same : {K : Type 0} {contents : K → Option (List ℕ)} {failed : K → Type 0} {x y : Output K} {r : Result (Unit {0}) RunError} {xs ys : List ℕ}

@@ -1,12 +1,15 @@
 pub mod CharactersLemmas
+pub mod ColouredLemmas
 pub mod ColumnLemmas
 pub mod CsvLemmas
 pub mod InstantLemmas
 pub mod JsonLemmas
 pub mod MaskedLemmas
 pub mod NameLemmas
+pub mod NumberLemmas
 pub mod PartsLemmas
 pub mod PointedLemmas
 pub mod ShownLemmas
 pub mod VerdictLemmas
 pub mod ReportLemmas
+pub mod SecondLemmas

@@ -1,15 +1,16 @@
 -- Proves that a run over lines writes the reports of the lines.
-use Rattle.std.proofs.Common.{◌≡◌, ℕ, ◌+◌, ◌≤◌, ◌<◌, ◌^◌, List, [], ◌∷◌, ◌++◌, length, Option, None, Result, Ok, Err, OnOk, ap, subst, ◌∙◌, arith}
+use Rattle.std.proofs.Common.{◌≡◌, ◌≢◌, refl, true, false, ℕ, ◌+◌, ◌≤◌, ◌<◌, ◌^◌, List, [], ◌∷◌, ◌++◌, length, Option, None, Result, Ok, Err, OnOk, ap, subst, ◌∙◌, arith}
 use Rattle.std.specs.Io.KnownBytes.{Appends}
 use Rattle.std.proofs.Common.{length-append}
-use Rattle.std.specs.Prelude.{◌==◌}
-use Rattle.ixdtf_buffers.specs.{declared.error.RunError.RunError, Lines.{ended_lines_of, last_line_of, unended_of}, Output.AppendsFront}
+use Rattle.std.specs.{Prelude.{◌==◌, ◌||◌, nat_lt, Bool}, Bool.MatchBool}
+use Rattle.ixdtf_buffers.specs.{declared.error.RunError.RunError, Lines.{ended_lines_of, last_line_of, unended_of}, Output.{AppendsFront, written}}
 use Rattle.ixdtf_buffers.specs.Tasks.{Steps, Does, DoesFront}
 use Rattle.ixdtf_buffers.proofs.LinesLemmas.{lines_most}
-use Rattle.ixdtf_checks.specs.{declared.{request.Request.Request, tally.Tally.Tally, checking.Checking.Checking}, Checks.{Counts, Reports, ReportsFront, ReportsLine}}
+use Rattle.ixdtf_checks.specs.{declared.{request.Request.Request, tally.Tally.Tally, checking.Checking.Checking}, Checks.{Counts, Reports, ReportsFront, ReportsLine}, Second.AddsReports}
+use Rattle.ixdtf_checks.proofs.SecondLemmas.{AddsReports-nil, AddsReports-trans, IsWritten-nil, failed_of, front-written, whole-of}
 use Rattle.ixdtf_instants.specs.declared.instant.Instant.{Instant}
-use Rattle.ixdtf_checks.specs.{Order.latest, Reports.{AreVerdicts, instant_in, last_instant, report_of, reports_of, refusal_count, refusals_of}}
-use Rattle.ixdtf_checks.specs.Verdicts.{Verdict, IsVerdict, Verdict.{accepted, printed, skipped, refused}}
+use Rattle.ixdtf_checks.specs.{Order.latest, Reports.{AreReports, AreVerdicts, IsFirst, IsRefusalReport, IsReport, IsSecond, instant_in, last_instant, refusal_count, refusal_of, refusals_of}}
+use Rattle.ixdtf_checks.specs.Verdicts.{Cause, Refusal, Tells, Verdict, IsVerdict, Verdict.{accepted, printed, skipped, refused}}
 
 -- A line counts as at most one refused line.
 one_most : (verdict : Verdict) → refusal_count verdict ≤ 1
@@ -17,12 +18,8 @@ one_most = elim [
   | accepted instant ↦ omega arith
   | printed canonical ↦ omega arith
   | skipped ↦ omega arith
-  | refused instant refusal ↦ omega arith
+  | refused instant cause ↦ omega arith
 ]
-
--- This is one step of a check: one line is reported and counted.
-abbrev Checks : Checking → List ℕ → List ℕ → Checking → Type 0
-Checks old line bytes new = (new.request ≡ old.request) × ReportsLine old.request old.tally new.tally old.last new.last line bytes
 
 -- `earlier` has the verdicts on the lines so far. The code has counted these lines, and `last` is the instant of the last one that
 -- has one.
@@ -30,91 +27,176 @@ record After (tally : Tally) (last : Option Instant) (earlier : List Verdict) : 
   lines : tally.lines ≡ length earlier
   instant : last ≡ last_instant earlier
 
--- The bytes are the reports of the next lines, and the code counted these lines.
-record AllReported (request : Request) (earlier : List Verdict) (old new : Tally) (lines : List (List ℕ)) (bytes : List ℕ) : Type 0 where
-  verdicts : List Verdict
-  are : AreVerdicts request earlier lines verdicts
-  reports : bytes ≡ reports_of request (old.lines + 1) old.refused verdicts
-  count : new.lines ≡ old.lines + length verdicts
-  refusals : new.refused ≡ old.refused + refusals_of verdicts
-
 -- `count` more lines can be counted without overflow.
 abbrev HasRoom : Tally → ℕ → Type 0
 HasRoom tally count = (tally.lines + count < 2 ^ 64) × (tally.refused + count < 2 ^ 64)
 
--- If the reports of the other lines are right, those of one more line before them are right too.
-one_more : {request asked : Request} {earlier : List Verdict} {old next new : Tally} {last kept : Option Instant} {line put : List ℕ} {lines : List (List ℕ)}
-    {others bytes : List ℕ} → bytes ≡ put ++ others → asked ≡ request → After old last earlier → (one : ReportsLine request old next last kept line put)
-    → next.lines ≡ old.lines + 1 → next.refused ≡ old.refused + refusal_count one.verdict
-    → AllReported asked (one.verdict ∷ earlier) next new lines others → AllReported request earlier old new (line ∷ lines) bytes
-one_more {request = request} {asked = asked} {earlier = earlier} {old = old} {next = next} {last = last} {line = line} {put = put} {lines = lines} whole same stands one number count more =
-    let first = one.verdict in
-    let before = old.refused + refusal_count first in
-    let rest = more.verdicts in
-    record {
-      verdicts = first ∷ rest;
-      are = (
-        subst (λ n. IsVerdict request (n == 0) (last_instant earlier) line first) stands.lines
-            (subst (λ l. IsVerdict request (old.lines == 0) l line first) stands.instant one.is),
-        subst (λ r. AreVerdicts r (first ∷ earlier) lines rest) same more.are,
-      );
-      reports = whole ∙ ap (λ t. put ++ t) more.reports ∙ ap (λ t. t ++ reports_of asked (next.lines + 1) next.refused rest) one.report
-          ∙ ap (λ n. report_of request n next.refused first ++ reports_of asked (n + 1) next.refused rest) number
-          ∙ ap (λ k. report_of request (old.lines + 1) k first ++ reports_of asked (old.lines + 1 + 1) k rest) count
-          ∙ ap (λ r. report_of request (old.lines + 1) before first ++ reports_of r (old.lines + 1 + 1) before rest) same;
-      count = omega (arith, more.count, number);
-      refusals = omega (arith, more.refusals, count);
-    }
+-- A line that is refused for a cause has a report, if a report can tell the cause.
+pub reported : (request : Request) (number refusals : ℕ) (instant : Option Instant) (cause : Cause) (refusal : Refusal) → Tells cause refusal
+    → (report : List ℕ) × IsReport request number refusals (refused instant cause) report
+reported request number refusals instant cause refusal tells = by_case (request.is_quiet || nat_lt request.most_reports refusals)
+  where
+    by_case : (unreported : Bool) → (report : List ℕ) × MatchBool unreported (report ≡ []) (IsRefusalReport request.format request.name.now number cause report)
+    by_case true = ([], refl)
+    by_case false = (refusal_of request.format request.name.now number refusal, (refusal, tells, refl))
 
-all_reported : (earlier : List Verdict) (old new : Checking) (lines : List (List ℕ)) (bytes : List ℕ) → HasRoom old.tally (length lines)
-    → After old.tally old.last earlier → Steps Checks old lines bytes new → AllReported old.request earlier old.tally new.tally lines bytes
-all_reported earlier old new [] bytes room stands (none, same) =
-    record { verdicts = []; are = tt; reports = none; count = rw same (omega arith); refusals = rw same (omega arith) }
-all_reported earlier old new (line ∷ lines) bytes room stands (put, others, next, whole, (same, one), rest) =
-    let number : next.tally.lines ≡ old.tally.lines + 1 = omega (arith, one.lines, room.0) in
-    let count : next.tally.refused ≡ old.tally.refused + refusal_count one.verdict = omega (arith, one.refused, room.1, one_most one.verdict) in
-    let now : After next.tally next.last (one.verdict ∷ earlier) =
-    record { lines = omega (arith, number, stands.lines); instant = one.instant ∙ ap (λ l. latest (instant_in one.verdict) l) stands.instant } in
-    one_more whole same stands one number count
-    (all_reported (one.verdict ∷ earlier) next new lines others (omega (arith, number, room.0), omega (arith, count, room.1, one_most one.verdict)) now rest)
+-- The report of a line and the reports of the lines after it are those of all these lines. `Is` says what the report of one line is, for a
+-- request.
+one_before : (Is : Request → ℕ → ℕ → Verdict → List ℕ → Type 0) (before : ℕ) (verdicts : List Verdict) {request asked : Request} {number next refusals : ℕ} {verdict : Verdict} (put others : List ℕ)
+    → asked ≡ request → next ≡ number → refusals ≡ before + refusal_count verdict → Is request next refusals verdict put
+    → AreReports (Is asked) (next + 1) refusals verdicts others → AreReports (Is request) number before (verdict ∷ verdicts) (put ++ others)
+one_before Is before verdicts {request = request} {asked = asked} {number = number} {next = next} {refusals = refusals} {verdict = verdict} put others same is count one more =
+    let all = before + refusal_count verdict in (
+      put,
+      others,
+      refl,
+      subst (λ n. Is request n all verdict put) is (subst (λ k. Is request next k verdict put) count one),
+      subst (λ r. AreReports (Is r) (number + 1) all verdicts others) same
+          (subst (λ n. AreReports (Is asked) (n + 1) all verdicts others) is (subst (λ k. AreReports (Is asked) (next + 1) k verdicts others) count more)),
+    )
 
-module _ (old new : Checking) (request : Request) (tally : Tally) (lines : List (List ℕ)) (asked : old.request ≡ request)
-    (none : old.tally.lines ≡ 0) (zero : old.tally.refused ≡ 0) (unseen : old.last ≡ None) (few : length lines < 2 ^ 64) (count : tally.lines ≡ new.tally.lines)
-    (refusals : tally.refused ≡ new.tally.refused) where
-  -- These are the reports of the first lines.
-  some_reported : (first : List (List ℕ)) (bytes : List ℕ) → length first ≤ length lines → Steps Checks old first bytes new
-      → (verdicts : List Verdict) × AreVerdicts request [] first verdicts × (bytes ≡ reports_of request 1 0 verdicts) × Counts tally verdicts
-  some_reported first bytes fewer steps =
-      let start : After old.tally old.last [] = record { lines = none; instant = unseen } in
-      let all = all_reported [] old new first bytes (omega (arith, none, few, fewer), omega (arith, zero, few, fewer)) start steps in
-      let one : old.tally.lines + 1 ≡ 1 = omega (arith, none) in (
-        all.verdicts,
-        subst (λ r. AreVerdicts r [] first all.verdicts) asked all.are,
-        all.reports ∙ ap (λ k. reports_of old.request k old.tally.refused all.verdicts) one
-            ∙ ap (λ k. reports_of old.request 1 k all.verdicts) zero ∙ ap (λ r. reports_of r 1 0 all.verdicts) asked,
-        record { lines = omega (arith, count, all.count, none); refused = omega (arith, refusals, all.refusals, zero) },
-      )
+module _ {E : Type 0} (contents : E → Option (List ℕ)) (failed : E → Type 0) where
+  -- This is one step of a check: one line is reported and counted.
+  abbrev Checks : Checking E → List ℕ → List ℕ → Checking E → Type 0
+  Checks old line bytes new = (new.request ≡ old.request) × ((second : List ℕ)
+      × ReportsLine old.request old.tally new.tally old.last new.last line bytes second × AddsReports contents failed old.second new.second second)
 
-  -- All bytes that were passed to the output were written.
-  pub reports : {s n : Option (List ℕ)} → Does Checks s n old new lines → Reports s n request tally lines
-  reports {s = s} {n = n} p =
-      let (verdicts, are, is, counts) = some_reported lines p.bytes (omega arith) p.steps in
-      record { verdicts = verdicts; are = are; appended = subst (λ t. Appends s n t) is p.appended; counts = counts }
+  -- The bytes are the reports of the next lines, and the code counted these lines.
+  record AllReported (earlier : List Verdict) (old new : Checking E) (lines : List (List ℕ)) (bytes : List ℕ) : Type 0 where
+    verdicts : List Verdict
+    are : AreVerdicts old.request earlier lines verdicts
+    reports : AreReports (IsFirst old.request) (old.tally.lines + 1) old.tally.refused verdicts bytes
+    others : List ℕ
+    second : AreReports (IsSecond old.request) (old.tally.lines + 1) old.tally.refused verdicts others
+    adds : AddsReports contents failed old.second new.second others
+    count : new.tally.lines ≡ old.tally.lines + length verdicts
+    refusals : new.tally.refused ≡ old.tally.refused + refusals_of verdicts
 
-  -- A prefix of the reports of the first lines was written.
-  pub reports_front : {s n : Option (List ℕ)} → DoesFront Checks s n old new lines → ReportsFront s n request tally lines
-  reports_front {s = s} {n = n} p =
-      let fewer : length p.first ≤ length lines = omega (arith, ap length p.whole, length-append p.first p.others) in
-      let (verdicts, are, is, counts) = some_reported p.first p.bytes fewer p.steps in
+  -- If the reports of the other lines are right, those of one more line before them are right too.
+  one_more : {earlier : List Verdict} {old next new : Checking E} {line put other : List ℕ} {lines : List (List ℕ)} {others bytes : List ℕ}
+      → bytes ≡ put ++ others → next.request ≡ old.request → After old.tally old.last earlier
+      → (one : ReportsLine old.request old.tally next.tally old.last next.last line put other) → AddsReports contents failed old.second next.second other
+      → next.tally.lines ≡ old.tally.lines + 1 → next.tally.refused ≡ old.tally.refused + refusal_count one.verdict
+      → AllReported (one.verdict ∷ earlier) next new lines others → AllReported earlier old new (line ∷ lines) bytes
+  one_more {earlier = earlier} {old = old} {next = next} {line = line} {put = put} {other = other} {lines = lines} {others = others} whole same stands one added number count more =
+      let first = one.verdict in
+      let rest = more.verdicts in
       record {
-        first = p.first;
-        others = p.others;
-        whole = p.whole;
-        verdicts = verdicts;
-        are = are;
-        front = subst (λ t. AppendsFront s n t) is p.front;
-        counts = counts;
+        verdicts = first ∷ rest;
+        are = (
+          subst (λ n. IsVerdict old.request (n == 0) (last_instant earlier) line first) stands.lines
+              (subst (λ l. IsVerdict old.request (old.tally.lines == 0) l line first) stands.instant one.is),
+          subst (λ r. AreVerdicts r (first ∷ earlier) lines rest) same more.are,
+        );
+        reports = rw whole (one_before IsFirst old.tally.refused rest put others same number count one.first_is more.reports);
+        others = other ++ more.others;
+        second = one_before IsSecond old.tally.refused rest other more.others same number count one.second_is more.second;
+        adds = AddsReports-trans added more.adds;
+        count = omega (arith, more.count, number);
+        refusals = omega (arith, more.refusals, count);
       }
+
+  all_reported : (earlier : List Verdict) (old new : Checking E) (lines : List (List ℕ)) (bytes : List ℕ) → HasRoom old.tally (length lines)
+      → After old.tally old.last earlier → Steps Checks old lines bytes new → AllReported earlier old new lines bytes
+  all_reported earlier old new [] bytes room stands (none, same) = record {
+    verdicts = [];
+    are = tt;
+    reports = none;
+    others = [];
+    second = refl;
+    adds = rw same AddsReports-nil;
+    count = rw same (omega arith);
+    refusals = rw same (omega arith);
+  }
+  all_reported earlier old new (line ∷ lines) bytes room stands (put, others, next, whole, (same, (other, one, added)), rest) =
+      let number : next.tally.lines ≡ old.tally.lines + 1 = omega (arith, one.lines, room.0) in
+      let count : next.tally.refused ≡ old.tally.refused + refusal_count one.verdict = omega (arith, one.refused, room.1, one_most one.verdict) in
+      let now : After next.tally next.last (one.verdict ∷ earlier) =
+      record { lines = omega (arith, number, stands.lines); instant = one.instant ∙ ap (λ l. latest (instant_in one.verdict) l) stands.instant } in
+      one_more whole same stands one added number count
+      (all_reported (one.verdict ∷ earlier) next new lines others (omega (arith, number, room.0), omega (arith, count, room.1, one_most one.verdict)) now rest)
+
+  module _ (old new : Checking E) (request : Request) (tally : Tally) (lines : List (List ℕ)) (asked : old.request ≡ request)
+      (none : old.tally.lines ≡ 0) (zero : old.tally.refused ≡ 0) (unseen : old.last ≡ None) (few : length lines < 2 ^ 64)
+      (count : tally.lines ≡ new.tally.lines) (refusals : tally.refused ≡ new.tally.refused) where
+    -- These are the reports of the first lines.
+    some_reported : (first : List (List ℕ)) (bytes : List ℕ) → length first ≤ length lines → Steps Checks old first bytes new
+        → (verdicts : List Verdict) × AreVerdicts request [] first verdicts × AreReports (IsFirst request) 1 0 verdicts bytes
+        × ((others : List ℕ) × AreReports (IsSecond request) 1 0 verdicts others × AddsReports contents failed old.second new.second others)
+        × Counts tally verdicts
+    some_reported first bytes fewer steps =
+        let start : After old.tally old.last [] = record { lines = none; instant = unseen } in
+        let all = all_reported [] old new first bytes (omega (arith, none, few, fewer), omega (arith, zero, few, fewer)) start steps in (
+          all.verdicts,
+          subst (λ r. AreVerdicts r [] first all.verdicts) asked all.are,
+          at_start IsFirst all.verdicts bytes all.reports,
+          (all.others, at_start IsSecond all.verdicts all.others all.second, all.adds),
+          record { lines = omega (arith, count, all.count, none); refused = omega (arith, refusals, all.refusals, zero) },
+        )
+      where
+        at_start : (Is : Request → ℕ → ℕ → Verdict → List ℕ → Type 0) (verdicts : List Verdict) (bytes : List ℕ)
+            → AreReports (Is old.request) (old.tally.lines + 1) old.tally.refused verdicts bytes → AreReports (Is request) 1 0 verdicts bytes
+        at_start Is verdicts bytes are =
+            let one : old.tally.lines + 1 ≡ 1 = omega (arith, none) in
+            subst (λ r. AreReports (Is r) 1 0 verdicts bytes) asked
+            (subst (λ k. AreReports (Is old.request) 1 k verdicts bytes) zero
+            (subst (λ k. AreReports (Is old.request) k old.tally.refused verdicts bytes) one are))
+
+    -- All bytes that were passed to the outputs were written. `after` is what is in the second output after a flush.
+    pub reports : (start now after : Option (List ℕ)) → (old.second.has_failed ≡ false) × (old.second.output.waiting ≡ []) → new.second.has_failed ≡ false
+        → (new.second.output.waiting ≡ [] → Appends (written contents new.second.output) after []) → Does Checks start now old new lines
+        → Reports start now (written contents old.second.output) after request tally lines
+    reports start now after began works keeps p =
+        let (verdicts, are, is, (others, second, adds), counts) = some_reported lines p.bytes (omega arith) p.steps in
+        record {
+          verdicts = verdicts;
+          are = are;
+          bytes = p.bytes;
+          reports = is;
+          appended = p.appended;
+          other_bytes = others;
+          other_reports = second;
+          second = whole-of contents failed new.second _ after _ (adds.written _ [] (IsWritten-nil contents failed old.second began)) works keeps;
+          counts = counts;
+        }
+
+    -- A prefix of the reports of the first lines was written.
+    pub reports_front : (start now after : Option (List ℕ)) → (old.second.has_failed ≡ false) × (old.second.output.waiting ≡ [])
+        → (new.second.output.waiting ≡ [] → Appends (written contents new.second.output) after [])
+        → (new.second.has_failed ≡ true → after ≡ written contents new.second.output) → DoesFront Checks start now old new lines
+        → ReportsFront start now (written contents old.second.output) after request tally lines
+    reports_front start now after began keeps still p =
+        let fewer : length p.first ≤ length lines = omega (arith, ap length p.whole, length-append p.first p.others) in
+        let (verdicts, are, is, (others, second, adds), counts) = some_reported p.first p.bytes fewer p.steps in
+        record {
+          first = p.first;
+          others = p.others;
+          whole = p.whole;
+          verdicts = verdicts;
+          are = are;
+          bytes = p.bytes;
+          reports = is;
+          front = p.front;
+          other_bytes = others;
+          other_reports = second;
+          second = front-written contents failed new.second _ after _ (adds.written _ [] (IsWritten-nil contents failed old.second began)) keeps still;
+          counts = counts;
+        }
+
+  -- The second output still has the same sink.
+  pub adds_of : (old new : Checking E) (lines : List (List ℕ)) (bytes : List ℕ) → Steps Checks old lines bytes new
+      → (others : List ℕ) × AddsReports contents failed old.second new.second others
+  adds_of old new [] bytes (none, same) = ([], rw same AddsReports-nil)
+  adds_of old new (line ∷ lines) bytes (put, others, next, whole, (same, (other, one, added)), rest) =
+      let (more, adds) = adds_of next new lines others rest in (other ++ more, AddsReports-trans added adds)
+
+  -- If a write to the second output failed, this is known of its sink.
+  pub second_failed : (old new : Checking E) (lines : List (List ℕ)) (bytes : List ℕ) → (old.second.has_failed ≡ false) × (old.second.output.waiting ≡ [])
+      → Steps Checks old lines bytes new → new.second.has_failed ≡ true → failed new.second.output.sink.now
+  second_failed old new lines bytes began steps stopped =
+      let (others, adds) = adds_of old new lines bytes steps in
+      failed_of contents failed new.second (written contents old.second.output) ([] ++ others)
+      (adds.written _ [] (IsWritten-nil contents failed old.second began)) stopped
 
 -- The number of lines that end with a newline is at most the number of bytes.
 pub ended_most : (bytes : List ℕ) → length (ended_lines_of bytes) ≤ length bytes

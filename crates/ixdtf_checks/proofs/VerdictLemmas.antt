@@ -45,24 +45,24 @@ pub check_refused : (kind : Kind) (profile : Profile) (last : Option Instant) (t
 check_refused kind profile last text (accepted instant) none = absurd none
 check_refused kind profile last text (printed canonical) none = absurd none
 check_refused kind profile last text skipped none = absurd none
-check_refused kind profile last text (refused None refusal) is = is
-check_refused kind profile last text (refused (Some instant) refusal) none = absurd none
+check_refused kind profile last text (refused None cause) is = is
+check_refused kind profile last text (refused (Some instant) cause) none = absurd none
 
 pub print_refused : (kind : Kind) (profile : Profile) (last : Option Instant) (text : Part) (verdict : Verdict)
     → IsRefusal (has_offset kind) (reader_of kind profile) text verdict → IsTextVerdict (Print kind) profile last text verdict
 print_refused kind profile last text (accepted instant) none = absurd none
 print_refused kind profile last text (printed canonical) none = absurd none
 print_refused kind profile last text skipped none = absurd none
-print_refused kind profile last text (refused None refusal) is = is
-print_refused kind profile last text (refused (Some instant) refusal) none = absurd none
+print_refused kind profile last text (refused None cause) is = is
+print_refused kind profile last text (refused (Some instant) cause) none = absurd none
 
 pub order_refused : (reader : Reader) (last : Option Instant) (text : Part) (verdict : Verdict)
     → IsRefusal true reader text verdict → IsOrderVerdict reader last text verdict
 order_refused reader last text (accepted instant) none = absurd none
 order_refused reader last text (printed canonical) none = absurd none
 order_refused reader last text skipped none = absurd none
-order_refused reader last text (refused None refusal) is = inl is
-order_refused reader last text (refused (Some instant) refusal) none = absurd none
+order_refused reader last text (refused None cause) is = inl is
+order_refused reader last text (refused (Some instant) cause) none = absurd none
 
 -- The verdict on a line that is not too long.
 pub short_verdict : (request : Request) (is_first : Bool) (last : Option Instant) (line text : List ℕ) (verdict : Verdict) → length line ≤ 65536 → line ≡ text

@@ -1,5 +1,5 @@
 -- Defines the object of JSON about a refused line.
-use Rattle.std.specs.{Prelude.{ℕ, ◌==◌, nat_lt, if◌then◌else◌, List, [], ◌∷◌, ◌++◌, codes}, List.flat_map, Fmt.decimal}
+use Rattle.std.specs.{Prelude.{ℕ, ◌==◌, nat_lt, if◌then◌else◌, List, [], ◌∷◌, ◌++◌, codes, Option, Some, None}, List.flat_map, Fmt.decimal}
 use Rattle.ixdtf_grammar.specs.Messages.{hex_text}
 use Rattle.ixdtf_checks.specs.Verdicts.{Refusal}
 
@@ -20,8 +20,14 @@ abbrev pub json_place : ℕ → ℕ → ℕ → List ℕ
 json_place number column end =
     codes ",\"line\":" ++ (decimal number ++ (codes ",\"column\":" ++ (decimal column ++ (codes ",\"end\":" ++ decimal end))))
 
--- The object has the name of the file, the number of the line, the columns, the name of the reason, and the message.
+-- This is the member with the hint, if there is a hint.
+abbrev pub json_hint : Option (List ℕ) → List ℕ
+json_hint None = []
+json_hint (Some hint) = codes ",\"hint\":" ++ json_string hint
+
+-- The object has the name of the file, the number of the line, the columns, the name of the reason, the message, and the hint if there
+-- is one.
 abbrev pub json_object : List ℕ → ℕ → Refusal → List ℕ
 json_object name number refusal =
     (codes "{\"file\":" ++ json_string name) ++ (json_place number refusal.column refusal.end
-    ++ ((codes ",\"reason\":" ++ json_string refusal.reason) ++ ((codes ",\"text\":" ++ json_string refusal.message) ++ codes "}")))
+    ++ ((codes ",\"reason\":" ++ json_string refusal.reason) ++ ((codes ",\"text\":" ++ json_string refusal.message) ++ (json_hint refusal.hint ++ codes "}"))))

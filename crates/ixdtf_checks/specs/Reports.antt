@@ -1,43 +1,65 @@
 -- Defines the reports about the lines of a file.
-use Rattle.std.specs.{Prelude.{ℕ, ◌+◌, ◌||◌, ◌==◌, nat_lt, if◌then◌else◌, List, [], ◌∷◌, ◌++◌, length, codes, Option, None}, Fmt.decimal}
+use Rattle.std.specs.{Prelude.{◌≡◌, ℕ, Bool, true, false, ◌+◌, ◌||◌, ◌==◌, nat_lt, List, [], ◌∷◌, ◌++◌, length, Option, None}, Bool.MatchBool}
 use Rattle.ixdtf_instants.specs.declared.instant.Instant.{Instant}
 use Rattle.ixdtf_buffers.specs.Lines.{newline}
-use Rattle.ixdtf_checks.specs.{declared.request.{Request.Request, Format.{Format, TheVariants.{Text, Json}}}, Json.json_object, Order.latest, Verdicts.{Refusal, Verdict, IsVerdict, Verdict.{accepted, printed, skipped, refused}}}
+use Rattle.ixdtf_checks.specs.{declared.request.{Request.Request, Task.{Task, TheVariants.{Check, Print, Order}}, Format.{Format, TheVariants.{Text, Coloured, Json}}}, Coloured.coloured_of, Json.json_object, Texts.text_of, Order.latest, Verdicts.{Cause, Refusal, hint_line, Tells, Verdict, IsVerdict, Verdict.{accepted, printed, skipped, refused}}}
 
--- The number of a line and a column are written in this form.
-abbrev pub line_and_column : ℕ → ℕ → List ℕ
-line_and_column number column = codes ":" ++ (decimal number ++ (codes ":" ++ (decimal column ++ codes ": ")))
-
--- As a text, the report of a refused line has the name of the file, the number of the line, the column, the message, and the lines
--- under it.
-abbrev pub text_of : List ℕ → ℕ → ℕ → List ℕ → List ℕ → List ℕ
-text_of name number column message lines = name ++ (line_and_column number column ++ (message ++ newline ∷ lines))
-
+-- This is the report of a refused line in a format.
 abbrev pub refusal_of : Format → List ℕ → ℕ → Refusal → List ℕ
-refusal_of Text name number refusal = text_of name number refusal.column refusal.message refusal.lines
+refusal_of Text name number refusal = text_of name number refusal.column refusal.message (refusal.lines ++ hint_line refusal.hint)
+refusal_of Coloured name number refusal = coloured_of name number refusal
 refusal_of Json name number refusal = json_object name number refusal ++ newline ∷ []
 
+-- This is a report of a line that is refused for the cause.
+abbrev pub IsRefusalReport : Format → List ℕ → ℕ → Cause → List ℕ → Type 0
+IsRefusalReport format name number cause report = (refusal : Refusal) × Tells cause refusal × (report ≡ refusal_of format name number refusal)
+
 -- This is the report of the line with this number. `refusals` is the number of refused lines up to it.
-abbrev pub report_of : Request → ℕ → ℕ → Verdict → List ℕ
-report_of request number refusals (accepted instant) = []
-report_of request number refusals (printed canonical) = canonical ++ newline ∷ []
-report_of request number refusals skipped = []
-report_of request number refusals (refused instant refusal) =
-    if request.is_quiet || nat_lt request.most_reports refusals then [] else refusal_of request.format request.name.now number refusal
+abbrev pub IsReport : Request → ℕ → ℕ → Verdict → List ℕ → Type 0
+IsReport request number refusals (accepted instant) report = report ≡ []
+IsReport request number refusals (printed canonical) report = report ≡ canonical ++ newline ∷ []
+IsReport request number refusals skipped report = report ≡ []
+IsReport request number refusals (refused instant cause) report = MatchBool (request.is_quiet || nat_lt request.most_reports refusals)
+    (report ≡ [])
+    (IsRefusalReport request.format request.name.now number cause report)
 
 -- A refused line counts as 1, and any other line as 0.
 abbrev pub refusal_count : Verdict → ℕ
 refusal_count (accepted instant) = 0
 refusal_count (printed canonical) = 0
 refusal_count skipped = 0
-refusal_count (refused instant refusal) = 1
+refusal_count (refused instant cause) = 1
 
--- These are the reports of the lines, one after the other. The first line has this number, and `before` is the number of refused
--- lines before it.
-abbrev pub reports_of : Request → ℕ → ℕ → List Verdict → List ℕ
-reports_of request number before [] = []
-reports_of request number before (verdict ∷ verdicts) =
-    report_of request number (before + refusal_count verdict) verdict ++ reports_of request (number + 1) (before + refusal_count verdict) verdicts
+-- Whether the task writes canonical texts.
+abbrev pub prints : Task → Bool
+prints (Check kind) = false
+prints (Print kind) = true
+prints (Order kind) = false
+
+-- A check has two outputs. If the task writes canonical texts, these texts go to the first output, and the reports of refused lines to the
+-- second. Otherwise, all reports go to the first.
+abbrev pub goes_to_second : Task → Verdict → Bool
+goes_to_second task (accepted instant) = false
+goes_to_second task (printed canonical) = false
+goes_to_second task skipped = false
+goes_to_second task (refused instant cause) = prints task
+
+-- These bytes go to the first output for the line.
+abbrev pub IsFirst : Request → ℕ → ℕ → Verdict → List ℕ → Type 0
+IsFirst request number refusals verdict bytes =
+    MatchBool (goes_to_second request.task verdict) (bytes ≡ []) (IsReport request number refusals verdict bytes)
+
+-- These bytes go to the second output for the line.
+abbrev pub IsSecond : Request → ℕ → ℕ → Verdict → List ℕ → Type 0
+IsSecond request number refusals verdict bytes =
+    MatchBool (goes_to_second request.task verdict) (IsReport request number refusals verdict bytes) (bytes ≡ [])
+
+-- These are the reports of the lines, one after the other. `Is` says what the report of one line is. The first line has this number, and
+-- `before` is the number of refused lines before it.
+abbrev pub AreReports : (ℕ → ℕ → Verdict → List ℕ → Type 0) → ℕ → ℕ → List Verdict → List ℕ → Type 0
+AreReports Is number before [] bytes = bytes ≡ []
+AreReports Is number before (verdict ∷ verdicts) bytes = (report : List ℕ) × (others : List ℕ) × (bytes ≡ report ++ others)
+    × Is number (before + refusal_count verdict) verdict report × AreReports Is (number + 1) (before + refusal_count verdict) verdicts others
 
 -- This is the number of refused lines.
 abbrev pub refusals_of : List Verdict → ℕ
@@ -49,7 +71,7 @@ abbrev pub instant_in : Verdict → Option Instant
 instant_in (accepted instant) = instant
 instant_in (printed canonical) = None
 instant_in skipped = None
-instant_in (refused instant refusal) = instant
+instant_in (refused instant cause) = instant
 
 -- This is the instant of the last line that has one. The last line of the file is the first of the list.
 abbrev pub last_instant : List Verdict → Option Instant

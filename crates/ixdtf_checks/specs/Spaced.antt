@@ -1,5 +1,6 @@
 -- Defines the message about a text that a reader refuses. There is a message about a space before an offset, because some programs write one.
-use Rattle.std.specs.{Prelude.{◌≡◌, ℕ, Bool, false, ◌==◌, ◌&&◌, ◌||◌, nat_le, List, [], ◌∷◌, drop, codes}, Bool.MatchBool}
+use Rattle.ixdtf_grammar.specs.Hints.{IsHint}
+use Rattle.std.specs.{Prelude.{◌≡◌, ℕ, Bool, false, ◌==◌, ◌&&◌, ◌||◌, nat_le, List, [], ◌∷◌, drop, codes, Option, Some, option_map}, Bool.MatchBool}
 use Rattle.ixdtf_grammar.specs.{declared.{located.LocatedError.LocatedError, message.Message.Message, part.WrongPart.WrongPart}, Messages.{IsMessage, message_text}, ReasonNames.reason_name}
 
 abbrev pub is_sign : ℕ → Bool
@@ -25,3 +26,9 @@ abbrev pub SaysWhy : Bool → List ℕ → LocatedError → WrongPart → List �
 SaysWhy has_offset bytes error part reason words = MatchBool (has_offset && is_spaced (drop part.begin bytes))
     ((reason ≡ codes "space_before_offset") × (words ≡ codes "a space stands before the offset"))
     ((reason ≡ reason_name error.reason) × ((message : Message) × IsMessage error.reason bytes error.at message × (words ≡ message_text message)))
+
+-- This is the hint about a text with this error, in which this part is wrong.
+abbrev pub HasHint : Bool → List ℕ → LocatedError → WrongPart → Option (List ℕ) → Type 0
+HasHint has_offset bytes error part hint = MatchBool (has_offset && is_spaced (drop part.begin bytes))
+    (hint ≡ Some (codes "remove the space before the offset"))
+    ((given : Option Message) × IsHint error.reason bytes error.at given × (hint ≡ option_map message_text given))

@@ -6,10 +6,13 @@
 #![tactic(auto)]
 
 pub mod arguments;
+mod cause;
 pub mod checker;
 mod checking;
+mod coloured;
 pub mod column;
 mod csv;
+mod explaining;
 mod instants;
 mod json;
 mod judge;
@@ -21,8 +24,11 @@ mod pointed;
 mod printed;
 mod printing;
 mod reading;
+mod refusal;
 mod report;
 pub mod request;
+mod room;
+mod second;
 pub mod shown;
 mod skipped;
 pub mod status;

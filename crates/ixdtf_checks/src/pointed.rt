@@ -20,12 +20,13 @@ const BEFORE_PLACE: usize = 48;
 /// The greatest number of characters that are shown from the position on.
 const FROM_PLACE: usize = 24;
 
-/// The greatest number of bytes of a report after the name of the file.
+/// The size in bytes of the array in which a report is made.
 ///
-/// The numbers of the line and of the column have at most 44 bytes, with the colons and the space. A message that is written into
-/// the same array has at most 160 bytes, and a newline follows it. The two lines under the message have at most 368 bytes: `..`, 72
-/// characters of four bytes, `..`, a newline, 50 spaces, 24 marks and a newline.
-pub const ROOM: usize = 573;
+/// The name of a file that is written into the array has at most 256 bytes. The numbers of the line and of the column have at most 45
+/// bytes, with the colons and the space. A message that is written into the array has three parts of at most 120 bytes, and a newline
+/// follows it. The two lines under the message have at most 368 bytes: `..`, 72 characters of four bytes, `..`, a newline, 50 spaces,
+/// 24 marks and a newline. The line with the hint has `hint: `, three parts of at most 120 bytes, and a newline.
+pub const ROOM: usize = 1397;
 
 /// The greatest number of marks.
 const MARKS: &[u8; 24] = b"^^^^^^^^^^^^^^^^^^^^^^^^";
@@ -52,9 +53,10 @@ const LEAD: u8 = 0xC2;
 ///
 /// First tests whether the bytes near the position are ASCII: at most 48 bytes before it, and at most 24 bytes from it on.
 /// If they are all ASCII, they are the part that is shown.
+#[inline(always)]
 pub fn add_lines(room: &mut [u8; ROOM], at: usize, bytes: &[u8], part: WrongPart) -> usize
-    requires { at + 368 ≤ 573 }
-    ensures place { result ≤ 573 }
+    requires { at + 368 ≤ 1030 }
+    ensures place { result ≤ 1030 }
     ensures text { Adds room.old room.new at result (lines_at part.begin part.end bytes.now) }
 {
     let near = near_window(bytes, part.begin);
@@ -68,6 +70,7 @@ pub fn add_lines(room: &mut [u8; ROOM], at: usize, bytes: &[u8], part: WrongPart
 }
 
 /// Returns the window of the bytes near the position: at most 48 before it, and at most 24 from it on.
+#[inline(always)]
 fn near_window(bytes: &[u8], place: usize) -> Window
     ensures fits { Fits bytes.now result }
     ensures near { IsNear bytes.now place result }
@@ -94,6 +97,7 @@ fn indent_behind(start: usize, count: usize) -> usize
 
 /// Returns whether the bytes are UTF-8. The bytes in the window are known to be ASCII. So the function tests nothing if the
 /// window contains the complete text.
+#[inline(always)]
 fn is_text(bytes: &[u8], window: Window) -> bool
     requires { IsAscii (bytes_in window bytes.now) }
     ensures yes { IsTrue result → IsUtf8 bytes.now }
@@ -106,9 +110,11 @@ fn is_text(bytes: &[u8], window: Window) -> bool
 }
 
 /// Adds the lines for bytes that can contain non-ASCII bytes near the position. Adds nothing if the bytes are not UTF-8.
+#[cold]
+#[inline(never)]
 fn add_any(room: &mut [u8; ROOM], at: usize, bytes: &[u8], part: WrongPart) -> usize
-    requires { at + 368 ≤ 573 }
-    ensures place { result ≤ 573 }
+    requires { at + 368 ≤ 1030 }
+    ensures place { result ≤ 1030 }
     ensures text { Adds room.old room.new at result (lines_at part.begin part.end bytes.now) }
 {
     match str::from_utf8(bytes) {
@@ -126,6 +132,7 @@ fn add_any(room: &mut [u8; ROOM], at: usize, bytes: &[u8], part: WrongPart) -> u
 
 /// Adds the part of a text that is shown, and the mark under it. If `is_ascii` is `true`, this part is ASCII. Then it has no
 /// control character of two bytes, and one call of `add_run` adds it.
+#[inline(always)]
 fn add_shown(
     room: &mut [u8; ROOM],
     at: usize,
@@ -134,11 +141,11 @@ fn add_shown(
     marks: usize,
     is_ascii: bool,
 ) -> usize
-    requires room { at + 368 ≤ 573 }
+    requires room { at + 368 ≤ 1030 }
     requires fits { Fits bytes.now window }
     requires few { marks ≤ 24 }
     requires ascii { IsTrue is_ascii → IsAscii (bytes_in window bytes.now) }
-    ensures place { result ≤ 573 }
+    ensures place { result ≤ 1030 }
     ensures text { Adds room.old room.new at result
         (window_lines bytes.now window marks (masked (bytes_in window bytes.now))) }
 {
@@ -153,11 +160,12 @@ fn add_shown(
 }
 
 /// Adds what follows the shown part of a text: `..` if the text continues, and the line with the marks.
+#[inline(always)]
 fn add_behind(room: &mut [u8; ROOM], at: usize, bytes: &[u8], window: Window, marks: usize) -> usize
-    requires room { at + 78 ≤ 573 }
+    requires room { at + 78 ≤ 1030 }
     requires narrow { window.indent ≤ 50 }
     requires few { marks ≤ 24 }
-    ensures place { result ≤ 573 }
+    ensures place { result ≤ 1030 }
     ensures text { Adds room.old room.new at result (behind_shown bytes.now window marks) }
 {
     let third = add_cut_mark(room, at, window.end < bytes.len());
@@ -167,6 +175,7 @@ fn add_behind(room: &mut [u8; ROOM], at: usize, bytes: &[u8], window: Window, ma
 }
 
 /// Returns the number of marks under a part: one for each byte, but at least one, and at most 24.
+#[inline(always)]
 fn marks_of(part: WrongPart) -> usize
     ensures marks { result ≡ marks_of part.begin part.end }
     ensures few { result ≤ 24 }
@@ -282,8 +291,9 @@ fn begins_character(byte: u8) -> bool
 }
 
 /// Adds `..` if a part of the text is left out.
+#[inline(always)]
 fn add_cut_mark(room: &mut [u8; ROOM], at: usize, is_cut: bool) -> usize
-    requires { at + 2 ≤ 573 }
+    requires { at + 2 ≤ 1030 }
     ensures place { result ≤ at + 2 }
     ensures text { Adds room.old room.new at result (cut_mark is_cut) }
 {
@@ -297,7 +307,7 @@ fn add_cut_mark(room: &mut [u8; ROOM], at: usize, is_cut: bool) -> usize
 /// Adds the bytes of a text, with `.` instead of each control character. Control characters are U+0000 to U+001F and U+007F, which
 /// are one byte, and U+0080 to U+009F, which are two bytes.
 fn add_masked(room: &mut [u8; ROOM], at: usize, bytes: &[u8]) -> usize
-    requires { at + length bytes.now ≤ 573 }
+    requires { at + length bytes.now ≤ 1030 }
     ensures place { result ≤ at + length bytes.now }
     ensures text { Adds room.old room.new at result (masked bytes.now) }
 {
@@ -317,8 +327,9 @@ fn add_masked(room: &mut [u8; ROOM], at: usize, bytes: &[u8]) -> usize
 }
 
 /// Adds the bytes, with `.` instead of each control character of one byte.
+#[inline(always)]
 fn add_run(room: &mut [u8; ROOM], at: usize, bytes: &[u8]) -> usize
-    requires { at + length bytes.now ≤ 573 }
+    requires { at + length bytes.now ≤ 1030 }
     ensures place { result ≡ at + length bytes.now }
     ensures text { Adds room.old room.new at result (map mask bytes.now) }
 {
@@ -330,6 +341,7 @@ fn add_run(room: &mut [u8; ROOM], at: usize, bytes: &[u8]) -> usize
 
 /// Writes each byte of `bytes` as `shown` returns it. Both slices are cut to the same length, so that the compiled code can write
 /// many bytes at once.
+#[inline(always)]
 fn show(room: &mut [u8], bytes: &[u8])
     requires { length room.old ≡ length bytes.now }
     ensures { room.new ≡ map mask bytes.now }
@@ -364,9 +376,10 @@ fn begins_control(bytes: &[u8], place: usize) -> bool
 ///
 /// The function always writes the greatest number of spaces, because the compiled code can copy a fixed number of bytes without
 /// a call of another function. The next bytes overwrite the spaces after the position of the mark.
+#[inline(always)]
 fn add_spaces(room: &mut [u8; ROOM], at: usize, indent: usize) -> usize
     requires few { indent ≤ 50 }
-    requires room { at + 51 ≤ 573 }
+    requires room { at + 51 ≤ 1030 }
     ensures place { result ≤ at + 51 }
     ensures text { Adds room.old room.new at result (newline ∷ replicate indent 32) }
 {
@@ -377,9 +390,10 @@ fn add_spaces(room: &mut [u8; ROOM], at: usize, indent: usize) -> usize
 /// Adds the marks.
 ///
 /// Like `add_spaces`, the function always writes the greatest number of them. The next bytes overwrite those that are too many.
+#[inline(always)]
 fn add_marks(room: &mut [u8; ROOM], at: usize, count: usize) -> usize
     requires few { count ≤ 24 }
-    requires room { at + 24 ≤ 573 }
+    requires room { at + 24 ≤ 1030 }
     ensures place { result ≤ at + 24 }
     ensures text { Adds room.old room.new at result (replicate count 94) }
 {

@@ -1,19 +1,26 @@
 //! Writes the report of a line.
-ghost use Rattle.std.specs.Prelude.{◌≡◌, ◌≤◌, ◌++◌, ◌∷◌, take, None, IfSome};
-ghost use Rattle.ixdtf_grammar.specs.Messages.{message_text};
+ghost use Rattle.std.specs.Prelude.{◌≡◌, ◌≤◌, ◌++◌, ◌∷◌, ◌+◌, ℕ, List, [], take, None, Some, IfSome};
+ghost use Rattle.ixdtf_grammar.specs.Messages.{message_text, shown_text};
 ghost use Rattle.ixdtf_buffers.specs.Adding.{Adds};
 ghost use Rattle.ixdtf_buffers.specs.Lines.{newline};
 ghost use Rattle.ixdtf_buffers.specs.Output.{Puts};
-ghost use Rattle.ixdtf_checks.specs.Reports.{line_and_column, text_of, report_of};
-ghost use Rattle.ixdtf_checks.specs.Seen.{seen, lines_in};
+ghost use Rattle.ixdtf_checks.specs.Verdicts.{hint_line};
+ghost use Rattle.ixdtf_checks.specs.Reports.{IsRefusalReport, IsReport};
+ghost use Rattle.ixdtf_checks.specs.Seen.{seen, seen_cause, lines_in, part_length, lines_behind};
+ghost use Rattle.ixdtf_checks.specs.Texts.{line_and_column, text_of};
 
+use crate::cause::Cause;
+use crate::coloured::put_coloured;
+use crate::explaining::refusal_of;
 use crate::json::put_object;
 use crate::pointed::{ROOM, add_lines};
 use crate::printed::PrintedText;
+use crate::refusal::{Marked, Refusal};
 use crate::request::{Format, Request};
-use crate::shown::{SHOWN_ROOM, shown_bytes};
-use crate::verdict::{Marked, Refusal, Verdict};
-use ixdtf::Message;
+use crate::room::ReportRoom;
+use crate::shown::{add_byte_number, add_character, put_message};
+use crate::verdict::Verdict;
+use ixdtf::{Message, Shown};
 use ixdtf_buffers::adding::{add_byte, add_bytes, add_number};
 use ixdtf_buffers::error::RunError;
 use ixdtf_buffers::output::Output;
@@ -22,8 +29,12 @@ use ixdtf_buffers::sink::Sink;
 /// The greatest length in bytes of a canonical text with its newline that is written to the output as one slice.
 const MOST_AT_ONCE: usize = 4096;
 
-/// The greatest length in bytes of a message that is written to the output together with the other bytes of its report.
-const MOST_MESSAGE: usize = 160;
+/// The greatest length in bytes of the name of a file that is written to the output together with the other bytes of a report.
+const MOST_NAME: usize = 256;
+
+/// The greatest length in bytes of each of the three parts of a message that is written to the output together with the other bytes of
+/// its report.
+const MOST_PART: usize = 120;
 
 /// Writes the report of the line to the output. `number` is the number of the line, from 1. `refusals` is the number of
 /// refused lines so far. If this line is refused, it is included. If the verdict is `Verdict::Printed`, `printed` contains
@@ -33,27 +44,42 @@ const MOST_MESSAGE: usize = 160;
 #[inline(always)]
 pub fn put_report<K: Sink>(
     output: &mut Output<'_, K>,
-    room: &mut [u8; ROOM],
+    room: &mut ReportRoom,
     request: &Request<'_>,
     number: u64,
     refusals: u64,
     printed: &PrintedText,
     verdict: &Verdict<'_>,
 ) -> Result<(), RunError>
-    ensures { Puts K.contents K.failed output.old output.new result
-        (report_of request.now number refusals (seen printed.now verdict.now)) }
+    ensures { (report : List ℕ) × IsReport request.now number refusals (seen printed.now verdict.now) report
+        × Puts K.contents K.failed output.old output.new result report }
 {
     match verdict {
         Verdict::Accepted | Verdict::Timed(_) | Verdict::Skipped => Ok(()),
         Verdict::Printed => put_printed(output, printed.as_line()),
-        Verdict::Refused(refusal) => {
+        Verdict::Refused(cause) => {
             if request.is_quiet || refusals > request.most_reports {
                 return Ok(());
             }
             match request.format {
-                Format::Text => put_refusal(output, room, request.name, number, refusal),
-                Format::Json => put_object(output, request.name, number, refusal),
+                Format::Text => put_refusal(output, room, request.name, number, cause),
+                Format::Coloured => put_coloured(output, room, request.name, number, cause),
+                Format::Json => put_object(output, request.name, number, cause),
             }
+        }
+    }
+}
+
+/// Makes what the report of the line would say, and writes nothing. The contract states that each line has a report.
+pub fn explain(verdict: &Verdict<'_>)
+    ensures { (request : Request) (number refusals : ℕ) (printed : List ℕ)
+        → (report : List ℕ) × IsReport request number refusals (seen printed verdict.now) report }
+{
+    match verdict {
+        Verdict::Accepted | Verdict::Timed(_) | Verdict::Skipped => {}
+        Verdict::Printed => {}
+        Verdict::Refused(cause) => {
+            let _refusal = refusal_of(*cause);
         }
     }
 }
@@ -70,95 +96,196 @@ fn put_printed<K: Sink>(output: &mut Output<'_, K>, line: &[u8]) -> Result<(), R
     output.put_all(&[text, newline])
 }
 
-/// Writes the report of a refused line to the output. The name of the file can be long, so it is a slice of its own. The other
-/// bytes are one slice, if the message fits into the array. All messages that a reader causes fit, but this is not proved.
+/// Writes the report of a line that is refused for this cause to the output, as a text. If the name of the file is short, the report
+/// is made in the array, and is written as one slice.
 ///
-/// The function is not inlined, because most lines are accepted.
+/// The function is not inlined, because most lines are accepted. But most functions that it calls are inlined into it. Each call
+/// would take about 20 instructions, and would pass the parts of the refusal in memory.
 #[inline(never)]
 fn put_refusal<K: Sink>(
     output: &mut Output<'_, K>,
-    room: &mut [u8; ROOM],
+    room: &mut ReportRoom,
     name: &str,
+    number: u64,
+    cause: &Cause<'_>,
+) -> Result<(), RunError>
+    ensures { (report : List ℕ) × IsRefusalReport Format.Text name.now number (seen_cause cause.now) report
+        × Puts K.contents K.failed output.old output.new result report }
+{
+    let bytes = name.as_bytes();
+    if bytes.len() > MOST_NAME {
+        return put_long_named(output, room, bytes, number, cause);
+    }
+    let end = add_bytes(&mut room.bytes, 0, bytes);
+    let refusal = refusal_of(*cause);
+    put_after(output, room, end, number, &refusal)
+}
+
+/// Does the work of `put_refusal`. The name of the file is a slice of its own.
+#[cold]
+#[inline(never)]
+fn put_long_named<K: Sink>(
+    output: &mut Output<'_, K>,
+    room: &mut ReportRoom,
+    name: &[u8],
+    number: u64,
+    cause: &Cause<'_>,
+) -> Result<(), RunError>
+    ensures { (report : List ℕ) × IsRefusalReport Format.Text name.now number (seen_cause cause.now) report
+        × Puts K.contents K.failed output.old output.new result report }
+{
+    let refusal = refusal_of(*cause);
+    output.put(name)?;
+    put_after(output, room, 0, number, &refusal)
+}
+
+/// Writes to the output what is in the array before `at`, and the report after the name of the file. These bytes are one slice, if
+/// the message fits into the array. All messages that a reader causes fit, but this is not proved.
+#[inline(always)]
+fn put_after<K: Sink>(
+    output: &mut Output<'_, K>,
+    room: &mut ReportRoom,
+    at: usize,
     number: u64,
     refusal: &Refusal<'_>,
 ) -> Result<(), RunError>
+    requires { at ≤ 256 }
     ensures { Puts K.contents K.failed output.old output.new result
-        (text_of name.now number refusal.now.column (message_text refusal.now.message) (lines_in refusal.now.marked)) }
+        (take at room.old.bytes
+        ++ text_of [] number refusal.now.column (message_text refusal.now.message) (lines_behind refusal.now.marked refusal.now.hint)) }
 {
-    output.put(name.as_bytes())?;
-    let place = add_place(room, number, refusal.column);
-    match add_message(room, place, &refusal.message) {
-        Some(end) => put_lines(output, room, end, refusal.marked),
+    let place = add_place(room, at, number, refusal.column);
+    match add_message(&mut room.bytes, place, &refusal.message) {
+        Some(end) => put_lines(output, &mut room.bytes, end, refusal.marked, refusal.hint),
         None => {
-            output.put(&room[..place])?;
+            output.put(&room.bytes[..place])?;
             put_message(output, &refusal.message)?;
-            put_lines(output, room, 0, refusal.marked)
+            put_lines(output, &mut room.bytes, 0, refusal.marked, refusal.hint)
         }
     }
 }
 
 /// Adds the number of a refused line, and the column of the error. Returns the index after the added bytes.
-fn add_place(room: &mut [u8; ROOM], number: u64, column: usize) -> usize
-    ensures place { result ≤ 44 }
-    ensures text { Adds room.old room.new 0 result (line_and_column number column) }
+#[inline(always)]
+fn add_place(room: &mut ReportRoom, at: usize, number: u64, column: usize) -> usize
+    requires { at ≤ 256 }
+    ensures place { result ≤ at + 45 }
+    ensures text { Adds room.old.bytes room.new.bytes at result (line_and_column number column) }
 {
-    let line = add_byte(room, 0, b':');
-    let second_colon = add_number(room, line, number);
-    let place = add_byte(room, second_colon, b':');
-    let third_colon = add_number(room, place, column as u64);
-    add_bytes(room, third_colon, b": ")
+    let line = add_byte(&mut room.bytes, at, b':');
+    let second_colon = room.numbers.add_number(&mut room.bytes, line, number);
+    let place = add_byte(&mut room.bytes, second_colon, b':');
+    let third_colon = add_number(&mut room.bytes, place, column as u64);
+    add_bytes(&mut room.bytes, third_colon, b": ")
 }
 
-/// Adds a message. Returns the index after the added bytes, or `None` if the message is longer than `MOST_MESSAGE` bytes.
+/// Adds a message. Returns the index after the added bytes, or `None` if a part of the message is longer than `MOST_PART` bytes.
+#[inline(always)]
 fn add_message(room: &mut [u8; ROOM], at: usize, message: &Message<'_>) -> Option<usize>
-    requires { at ≤ 44 }
-    ensures place { IfSome result (λ end. end ≤ 204) }
+    requires { at + 360 ≤ 1397 }
+    ensures place { IfSome result (λ end. end ≤ at + 360) }
     ensures text { IfSome result (λ end. Adds room.old room.new at end (message_text message.now)) }
     ensures none { result ≡ None → room.new ≡ room.old }
 {
-    let mut array = [0; SHOWN_ROOM];
-    let shown = shown_bytes(message.shown, &mut array);
     let before = message.before.as_bytes();
     let after = message.after.as_bytes();
-    if before.len() > MOST_MESSAGE || shown.len() > MOST_MESSAGE || after.len() > MOST_MESSAGE {
+    if before.len() > MOST_PART || after.len() > MOST_PART {
         return None;
     }
-    if before.len() + shown.len() + after.len() > MOST_MESSAGE {
+    if part_length(message.shown) > MOST_PART {
         return None;
     }
     let first = add_bytes(room, at, before);
-    let second = add_bytes(room, first, shown);
+    let second = add_shown(room, first, message.shown);
+    if after.is_empty() {
+        return Some(second);
+    }
     Some(add_bytes(room, second, after))
 }
 
-/// Writes a message to the output.
-#[cold]
-#[inline(never)]
-fn put_message<K: Sink>(output: &mut Output<'_, K>, message: &Message<'_>) -> Result<(), RunError>
-    ensures { Puts K.contents K.failed output.old output.new result (message_text message.now) }
+/// Returns the length in bytes of the part of the text that a message shows.
+#[inline(always)]
+fn part_length(shown: Shown<'_>) -> usize
+    ensures { result ≡ part_length shown.entry }
 {
-    let mut array = [0; SHOWN_ROOM];
-    let shown = shown_bytes(message.shown, &mut array);
-    output.put(message.before.as_bytes())?;
-    output.put(shown)?;
-    output.put(message.after.as_bytes())
+    match shown {
+        Shown::Part(text) => text.len(),
+        Shown::Nothing | Shown::Character(_) | Shown::Byte(_) => 0,
+    }
 }
 
-/// Writes to the output what is in the array before `at`, a newline, and the lines that show a text and the part that is wrong.
+/// Adds what a message shows of the text. Returns the index after the added bytes.
+#[inline(always)]
+fn add_shown(room: &mut [u8; ROOM], at: usize, shown: Shown<'_>) -> usize
+    requires short { part_length shown ≤ 120 }
+    requires room { at + 120 ≤ 1397 }
+    ensures place { result ≤ at + 120 }
+    ensures text { Adds room.old room.new at result (shown_text shown.entry) }
+{
+    match shown {
+        Shown::Nothing => at,
+        Shown::Part(text) => add_bytes(room, at, text.as_bytes()),
+        Shown::Character(character) => add_character(room, at, character),
+        Shown::Byte(byte) => add_byte_number(room, at, byte),
+    }
+}
+
+/// Writes to the output what is in the array before `at`, a newline, the lines that show a text and the part that is wrong, and the
+/// hint.
+#[inline(always)]
 fn put_lines<K: Sink>(
     output: &mut Output<'_, K>,
     room: &mut [u8; ROOM],
     at: usize,
     marked: Option<Marked<'_>>,
+    hint: Option<Message<'_>>,
 ) -> Result<(), RunError>
-    requires { at ≤ 204 }
+    requires { at ≤ 661 }
     ensures { Puts K.contents K.failed output.old output.new result
-        (take at room.old ++ newline ∷ lines_in marked.entry) }
+        (take at room.old ++ newline ∷ lines_behind marked.entry hint.entry) }
+{
+    let end = add_marked(room, at, marked);
+    match hint {
+        None => output.put(&room[..end]),
+        Some(hint) => put_hint(output, room, end, &hint),
+    }
+}
+
+/// Adds a newline, and the lines that show a text and the part that is wrong. Returns the index after them.
+#[inline(always)]
+fn add_marked(room: &mut [u8; ROOM], at: usize, marked: Option<Marked<'_>>) -> usize
+    requires { at ≤ 661 }
+    ensures place { result ≤ 1030 }
+    ensures text { Adds room.old room.new at result (newline ∷ lines_in marked.entry) }
 {
     let lines = add_byte(room, at, b'\n');
-    let end = match marked {
+    match marked {
         None => lines,
         Some(marked) => add_lines(room, lines, marked.text, marked.part),
-    };
-    output.put(&room[..end])
+    }
+}
+
+/// Writes to the output what is in the array before `at`, and the line with the hint.
+fn put_hint<K: Sink>(
+    output: &mut Output<'_, K>,
+    room: &mut [u8; ROOM],
+    at: usize,
+    hint: &Message<'_>,
+) -> Result<(), RunError>
+    requires { at ≤ 1030 }
+    ensures { Puts K.contents K.failed output.old output.new result
+        (take at room.old ++ hint_line (Some (message_text hint.now))) }
+{
+    let words = add_bytes(room, at, b"hint: ");
+    match add_message(room, words, hint) {
+        Some(end) => {
+            let filled = add_byte(room, end, b'\n');
+            output.put(&room[..filled])
+        }
+        None => {
+            output.put(&room[..words])?;
+            put_message(output, hint)?;
+            output.put(b"\n")
+        }
+    }
 }

@@ -57,6 +57,8 @@ pub enum Format {
     /// The name of the file, the number of the line, the column and the message. Under them, the text of the line is shown, with
     /// marks under the part that is wrong.
     Text,
+    /// The same text with colours, for a terminal.
+    Coloured,
     /// An object of JSON (RFC 8259) on a line of its own.
     Json,
 }

@@ -1,6 +1,7 @@
 //! Tests for `ixdtf_check` of what no contract states: examples of lines, failing readers and writers, and the arguments.
 
 mod arguments;
+mod coloured;
 mod columns;
 mod faults;
 mod json;
@@ -30,8 +31,8 @@ const DATE_TIMES: Request<'static> = Request {
     is_quiet: false,
 };
 
-/// Asserts that a check of the input writes the bytes, and counts all its bytes. `counts` has the number of lines, and the number
-/// of refused lines.
+/// Asserts that a check of the input writes the bytes, and nothing to the second output, and that it counts all bytes of the input.
+/// `counts` has the number of lines, and the number of refused lines.
 fn check_written(
     rt: &impl Abort,
     alloc: Global,
@@ -40,11 +41,26 @@ fn check_written(
     bytes: &[u8],
     counts: (u64, u64),
 ) -> Result<(), Fail> {
+    check_both(rt, alloc, request, input, (bytes, b""), counts)
+}
+
+/// Asserts that a check of the input writes the first bytes to the first output, and the others to the second, and that it counts
+/// all bytes of the input. `counts` has the number of lines, and the number of refused lines.
+fn check_both(
+    rt: &impl Abort,
+    alloc: Global,
+    request: &Request<'_>,
+    input: &[u8],
+    bytes: (&[u8], &[u8]),
+    counts: (u64, u64),
+) -> Result<(), Fail> {
     let mut reader = input;
     let mut written = Vec::new(alloc);
-    let checked = check(&mut reader, &mut written, request);
+    let mut reports = Vec::new(alloc);
+    let checked = check(&mut reader, &mut written, &mut reports, request);
     assert_eq!(rt; checked.end, Ok(()));
-    assert_eq!(rt; written.as_slice(), bytes);
+    assert_eq!(rt; written.as_slice(), bytes.0);
+    assert_eq!(rt; reports.as_slice(), bytes.1);
     assert_eq!(rt; checked.tally.lines, counts.0);
     assert_eq!(rt; checked.tally.refused, counts.1);
     assert_eq!(rt; checked.tally.bytes, input.len() as u64);

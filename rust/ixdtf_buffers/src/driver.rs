@@ -13,7 +13,7 @@ use crate::source::Source;
 pub trait LineTask<const LIMIT: usize> {
     /// Handles one line, and writes its result to the output. `line` is `None` if the line has more than `LIMIT` bytes.
     ///
-    /// Returns `RunError::Write` if a write fails.
+    /// Returns `RunError::Write` if a write fails, to the output or to something else that the task writes to.
     fn take_line<K: Sink>(
         &mut self,
         output: &mut Output<'_, K>,

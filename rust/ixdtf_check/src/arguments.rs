@@ -4,7 +4,7 @@
 
 use crate::csv::QUOTE;
 use crate::kind::{InstantKind, Kind};
-use crate::nearest::{FORMATS, KINDS, OPTIONS, nearest_of};
+use crate::nearest::{COLORS, FORMATS, KINDS, OPTIONS, nearest_of};
 use crate::request::{Extent, Field, Format, Request, Skips, Task};
 use ixdtf::parsers::Profile;
 
@@ -63,6 +63,8 @@ pub enum Wrong {
     InvalidCount,
     /// There is no form of reports with this name.
     UnknownFormat,
+    /// The value of `--color` is not `auto`, `always` or `never`.
+    UnknownColor,
     /// There is `--separator`, but neither `--field` nor `--fields`.
     SeparatorWithoutField,
     /// The value of `--fields` does not have the form `FIRST-LAST`, where FIRST and LAST are the numbers of two fields, and LAST
@@ -101,6 +103,7 @@ impl Wrong {
             Wrong::InvalidComment => "expected the one byte with which comments begin",
             Wrong::InvalidCount => "expected a number of reports",
             Wrong::UnknownFormat => "there is no such format; the formats are text and json",
+            Wrong::UnknownColor => "expected auto, always or never",
             Wrong::SeparatorWithoutField => "--separator needs --field or --fields",
             Wrong::InvalidFields => {
                 "expected the numbers of two fields with a - between them, such as 1-2; the first is 1 or more, and the second is not less"
@@ -118,7 +121,7 @@ impl Wrong {
     }
 }
 
-/// Returns the option, or the name of a kind or of a format, that the user probably meant with a refused word.
+/// Returns the option, or the name of a kind or of a format, or the value of `--color`, that the user probably meant with a refused word.
 pub fn meant_by(word: &str, wrong: Wrong) -> Option<&'static str> {
     let (option, value) = match word.split_once('=') {
         None => (word, word),
@@ -128,6 +131,7 @@ pub fn meant_by(word: &str, wrong: Wrong) -> Option<&'static str> {
         Wrong::UnknownOption => nearest_of(option, &OPTIONS),
         Wrong::UnknownKind => nearest_of(value, &KINDS),
         Wrong::UnknownFormat => nearest_of(value, &FORMATS),
+        Wrong::UnknownColor => nearest_of(value, &COLORS),
         Wrong::UnexpectedValue
         | Wrong::MissingValue
         | Wrong::InvalidField
@@ -156,7 +160,17 @@ enum Awaited {
     Comment,
     MaxReports,
     Format,
+    Color,
     File,
+}
+
+/// When reports as a text have colours.
+#[derive(Clone, Copy, Debug, PartialEq)]
+enum Color {
+    /// If they go to a terminal that shows colours.
+    Auto,
+    Always,
+    Never,
 }
 
 /// The position of the name of a field in the arguments. The name is the value of `--field`.
@@ -201,6 +215,7 @@ pub struct Options {
     skips: Skips,
     most_reports: Option<u64>,
     format: Format,
+    color: Color,
     is_canonical: bool,
     is_ordered: bool,
     is_quiet: bool,
@@ -220,6 +235,7 @@ impl Options {
             skips: NOTHING_SKIPPED,
             most_reports: None,
             format: Format::Text,
+            color: Color::Auto,
             is_canonical: false,
             is_ordered: false,
             is_quiet: false,
@@ -236,7 +252,8 @@ impl Options {
             | Awaited::Separator
             | Awaited::Comment
             | Awaited::MaxReports
-            | Awaited::Format => self.take_value(word, 0),
+            | Awaited::Format
+            | Awaited::Color => self.take_value(word, 0),
             Awaited::File => Word::File,
         };
         self.words = self.words.saturating_add(1);
@@ -253,6 +270,7 @@ impl Options {
             Awaited::Comment => self.take_comment(value),
             Awaited::MaxReports => self.take_count(value),
             Awaited::Format => self.take_format(value),
+            Awaited::Color => self.take_color(value),
             Awaited::Anything | Awaited::File => Word::Wrong(Wrong::UnexpectedValue),
         }
     }
@@ -315,6 +333,8 @@ impl Options {
             self.awaited = Awaited::MaxReports;
         } else if option == "--format" {
             self.awaited = Awaited::Format;
+        } else if option == "--color" {
+            self.awaited = Awaited::Color;
         } else {
             return false;
         }
@@ -425,6 +445,49 @@ impl Options {
         Word::Option
     }
 
+    /// Applies the value of `--color`.
+    fn take_color(&mut self, word: &str) -> Word {
+        self.awaited = Awaited::Anything;
+        if word == "auto" {
+            self.color = Color::Auto;
+        } else if word == "always" {
+            self.color = Color::Always;
+        } else if word == "never" {
+            self.color = Color::Never;
+        } else {
+            return Word::Wrong(Wrong::UnknownColor);
+        }
+        Word::Option
+    }
+
+    /// Decides what `--color auto` means, which is also the meaning without `--color`. `shows_colors` says whether the reports go to
+    /// a terminal that shows colours. Call this function after all words. Without a call, the reports have no colours.
+    pub fn settle_color(&mut self, shows_colors: bool) {
+        if self.color == Color::Auto && shows_colors {
+            self.color = Color::Always;
+        }
+    }
+
+    /// Returns whether the reports go to standard error, because canonical texts go to standard output.
+    pub fn has_two_outputs(&self) -> bool {
+        self.is_canonical
+    }
+
+    /// Returns whether the counts are written to standard error. They are not if objects of JSON go there, because then standard error
+    /// is a file of objects.
+    pub fn has_counts(&self) -> bool {
+        !(self.has_two_outputs() && self.format == Format::Json)
+    }
+
+    /// Returns the form of the reports. Objects of JSON never have colours.
+    fn format_with_color(&self) -> Format {
+        if self.format == Format::Text && self.color == Color::Always {
+            Format::Coloured
+        } else {
+            self.format
+        }
+    }
+
     /// Returns the reason why the words do not fit together. Returns `None` if they do.
     pub fn wrong(&self) -> Option<Wrong> {
         let kind = self.kind.unwrap_or(Kind::DateTime);
@@ -435,7 +498,8 @@ impl Options {
             | Awaited::Separator
             | Awaited::Comment
             | Awaited::MaxReports
-            | Awaited::Format => Some(Wrong::MissingValue),
+            | Awaited::Format
+            | Awaited::Color => Some(Wrong::MissingValue),
             Awaited::Anything | Awaited::File => {
                 if self.separator.is_some() && self.column.is_none() {
                     Some(Wrong::SeparatorWithoutField)
@@ -517,7 +581,7 @@ impl Options {
             field: self.numbered_field(),
             skips: self.skips(),
             most_reports: self.most_reports.unwrap_or(u64::MAX),
-            format: self.format,
+            format: self.format_with_color(),
             is_quiet: self.is_quiet,
         })
     }

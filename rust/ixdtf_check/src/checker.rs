@@ -3,11 +3,15 @@
 //! Checks all lines of an input.
 
 use crate::checking::Checking;
+use crate::printed::PrintedText;
 use crate::request::Request;
+use crate::room::ReportRoom;
+use crate::second::SecondOutput;
 use crate::tally::Tally;
 use crate::verdict::LINE_LIMIT;
 use ixdtf_buffers::driver::drive;
 use ixdtf_buffers::error::RunError;
+use ixdtf_buffers::output::Output;
 use ixdtf_buffers::sink::Sink;
 use ixdtf_buffers::source::Source;
 use std::io::{Read, Write};
@@ -21,23 +25,55 @@ pub struct Checked {
     pub end: Result<(), RunError>,
 }
 
-/// Checks each line that is read from `reader`, and writes the reports to `writer`.
-pub fn check<R: Read, W: Write>(reader: &mut R, writer: &mut W, request: &Request<'_>) -> Checked {
-    check_lines(reader, writer, request)
-}
-
-/// Checks each line of the source, and writes the reports to the sink.
-pub fn check_lines<S: Source, K: Sink>(
-    source: &mut S,
-    sink: &mut K,
+/// Checks each line that is read from `reader`. Writes the reports to `writer`. If the task of the request is [`Task::Print`],
+/// writes the canonical texts to `writer`, and the reports to `reports`.
+///
+/// [`Task::Print`]: crate::request::Task::Print
+pub fn check<R: Read, W: Write, E: Write>(
+    reader: &mut R,
+    writer: &mut W,
+    reports: &mut E,
     request: &Request<'_>,
 ) -> Checked {
-    let mut checking = Checking::new(*request);
-    let driven = drive::<S, K, Checking<'_>, LINE_LIMIT>(source, sink, &mut checking);
-    let mut tally = checking.tally;
-    tally.bytes = driven.bytes;
+    check_lines(reader, writer, reports, request)
+}
+
+/// Checks each line of the source. Writes the reports to `sink`. If the task of the request is [`Task::Print`], writes the canonical
+/// texts to `sink`, and the reports to `reports`.
+///
+/// [`Task::Print`]: crate::request::Task::Print
+pub fn check_lines<S: Source, K: Sink, E: Sink>(
+    source: &mut S,
+    sink: &mut K,
+    reports: &mut E,
+    request: &Request<'_>,
+) -> Checked {
+    let mut checking = Checking {
+        request: *request,
+        printed: PrintedText::empty(),
+        room: ReportRoom::new(),
+        unquoted: [0; LINE_LIMIT],
+        last: None,
+        tally: Tally::new(),
+        second: SecondOutput {
+            output: Output::new(reports),
+            has_failed: false,
+        },
+    };
+    let end = check_all(source, sink, &mut checking);
     Checked {
-        tally,
-        end: driven.end,
+        tally: checking.tally,
+        end,
     }
+}
+
+/// Does the work of `check_lines`. The values in `checking` must be those before the first line.
+fn check_all<S: Source, K: Sink, E: Sink>(
+    source: &mut S,
+    sink: &mut K,
+    checking: &mut Checking<'_, '_, E>,
+) -> Result<(), RunError> {
+    let driven = drive::<S, K, Checking<'_, '_, E>, LINE_LIMIT>(source, sink, checking);
+    checking.tally.bytes = driven.bytes;
+    checking.second.finish(driven.end)
 }

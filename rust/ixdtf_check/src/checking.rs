@@ -3,10 +3,11 @@
 //! The work of a check for one line.
 
 use crate::judge::judge;
-use crate::pointed::ROOM;
 use crate::printed::PrintedText;
 use crate::report::put_report;
 use crate::request::Request;
+use crate::room::ReportRoom;
+use crate::second::SecondOutput;
 use crate::tally::Tally;
 use crate::verdict::{LINE_LIMIT, Verdict};
 use ixdtf::Instant;
@@ -16,14 +17,13 @@ use ixdtf_buffers::output::Output;
 use ixdtf_buffers::sink::Sink;
 
 /// The options of a check, and the values that the check keeps from one line to the next.
-pub struct Checking<'n> {
+pub struct Checking<'n, 'k, E> {
     /// The options of the check.
     pub request: Request<'n>,
     /// The canonical text that the check printed last.
     pub printed: PrintedText,
-    /// The array in which a report is made. It is kept between lines. A new array for each report would first have to be filled
-    /// with zeros, which takes as long as writing the report.
-    pub room: [u8; ROOM],
+    /// The array in which a report is made. It is kept between lines.
+    pub room: ReportRoom,
     /// A buffer for the text of a field in quotes, if the field has doubled quotes. The text of the field is copied into it,
     /// with one quote for each two.
     pub unquoted: [u8; LINE_LIMIT],
@@ -31,24 +31,12 @@ pub struct Checking<'n> {
     pub last: Option<Instant>,
     /// The counts so far, without the bytes. `check_lines` adds the number of bytes at the end.
     pub tally: Tally,
+    /// The output of the reports, if the task prints canonical texts.
+    pub second: SecondOutput<'k, E>,
 }
 
-impl<'n> Checking<'n> {
-    /// Creates the state before the first line.
-    pub fn new(request: Request<'n>) -> Checking<'n> {
-        Checking {
-            request,
-            printed: PrintedText::empty(),
-            room: [0; ROOM],
-            unquoted: [0; LINE_LIMIT],
-            last: None,
-            tally: Tally::new(),
-        }
-    }
-}
-
-impl LineTask<LINE_LIMIT> for Checking<'_> {
-    /// Writes the report of the line to the output, and counts the line.
+impl<E: Sink> LineTask<LINE_LIMIT> for Checking<'_, '_, E> {
+    /// Writes the report of the line to one of the outputs, and counts the line.
     #[inline(always)]
     fn take_line<K: Sink>(
         &mut self,
@@ -68,12 +56,23 @@ impl LineTask<LINE_LIMIT> for Checking<'_> {
         );
         self.tally.add_line(verdict.is_refused());
         let number = self.tally.lines;
+        let refusals = self.tally.refused;
+        if verdict.goes_to_second(self.request.task) {
+            return self.second.put(
+                &mut self.room,
+                &self.request,
+                number,
+                refusals,
+                &self.printed,
+                &verdict,
+            );
+        }
         put_report(
             output,
             &mut self.room,
             &self.request,
             number,
-            self.tally.refused,
+            refusals,
             &self.printed,
             &verdict,
         )

@@ -5,8 +5,10 @@
 //! The reports as a text are the usual ones. So this code is plain: it writes each part of an object, and each byte of a string,
 //! with a call of its own.
 
+use crate::cause::Cause;
+use crate::explaining::{name_of, refusal_of};
+use crate::refusal::Refusal;
 use crate::shown::{SHOWN_ROOM, add_two_digits, shown_bytes};
-use crate::verdict::Refusal;
 use ixdtf::Message;
 use ixdtf_buffers::adding::{add_bytes, add_number};
 use ixdtf_buffers::error::RunError;
@@ -17,8 +19,8 @@ use ixdtf_buffers::sink::Sink;
 /// 25 bytes of the names before them.
 const PLACE_ROOM: usize = 85;
 
-/// Writes the object about a refused line to the output, and a newline. `name` is the name of the file, and `number` is the number
-/// of the line, from 1.
+/// Writes the report of a line that is refused for this cause to the output, as an object. `name` is the name of the file, and
+/// `number` is the number of the line, from 1.
 ///
 /// The function is not inlined, because most lines are accepted.
 #[cold]
@@ -27,13 +29,25 @@ pub fn put_object<K: Sink>(
     output: &mut Output<'_, K>,
     name: &str,
     number: u64,
+    cause: &Cause<'_>,
+) -> Result<(), RunError> {
+    let refusal = refusal_of(*cause);
+    put_members(output, name, number, &refusal)
+}
+
+/// Writes an object with its members to the output, and a newline.
+fn put_members<K: Sink>(
+    output: &mut Output<'_, K>,
+    name: &str,
+    number: u64,
     refusal: &Refusal<'_>,
 ) -> Result<(), RunError> {
     put_member(output, b"{\"file\":", name.as_bytes())?;
     put_place(output, number, refusal.column, refusal.end)?;
-    put_member(output, b",\"reason\":", refusal.reason.as_bytes())?;
+    put_member(output, b",\"reason\":", name_of(refusal.why).as_bytes())?;
     output.put(b",\"text\":")?;
     put_message(output, &refusal.message)?;
+    put_hint(output, refusal.hint)?;
     output.put(b"}\n")
 }
 
@@ -52,6 +66,17 @@ fn put_place<K: Sink>(
     let last = add_bytes(&mut room, end_name, b",\"end\":");
     let filled = add_number(&mut room, last, end as u64);
     output.put(&room[..filled])
+}
+
+/// Writes the member with the hint to the output, if there is a hint.
+fn put_hint<K: Sink>(output: &mut Output<'_, K>, hint: Option<Message<'_>>) -> Result<(), RunError> {
+    match hint {
+        None => Ok(()),
+        Some(hint) => {
+            output.put(b",\"hint\":")?;
+            put_message(output, &hint)
+        }
+    }
 }
 
 /// Writes a message to the output as a string of JSON.

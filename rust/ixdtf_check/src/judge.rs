@@ -2,7 +2,7 @@
 
 //! Decides the verdict on a line.
 
-use crate::csv::Quoting;
+use crate::cause::{Cause, Unread, WholeText};
 use crate::instants::read_instant;
 use crate::kind::{InstantKind, Kind};
 use crate::part::{Lost, Part, part_of};
@@ -11,9 +11,9 @@ use crate::printing::read_to_print;
 use crate::reading::{read, read_date_time};
 use crate::request::{Field, Request, Task};
 use crate::skipped::kept_line;
-use crate::verdict::{LINE_LIMIT, Marked, Refusal, Verdict, words};
+use crate::verdict::{LINE_LIMIT, Verdict};
 use ixdtf::parsers::Profile;
-use ixdtf::{Instant, LocatedError, Message, WrongPart};
+use ixdtf::{Instant, LocatedError};
 
 /// Writes the verdict on the line to `verdict`. The line is `None` if it is too long. `last` is the instant of the nearest
 /// preceding line whose text names an instant. If the task is `Task::Order` and the text of this line names an instant, `last`
@@ -32,9 +32,7 @@ pub fn judge<'a>(
     verdict: &mut Verdict<'a>,
 ) {
     match line {
-        None => {
-            *verdict = refused_whole(LINE_LIMIT + 1, "line_too_long", "line too long");
-        }
+        None => *verdict = Verdict::Refused(Cause::TooLong),
         Some(bytes) => judge_short(request, is_first, last, bytes, printed, unquoted, verdict),
     }
 }
@@ -91,47 +89,11 @@ fn judge_field<'a>(
     verdict: &mut Verdict<'a>,
 ) {
     match part_of(field, line, unquoted) {
-        Err(Lost::NoField) => {
-            *verdict = refused_whole(line.len() + 1, "no_such_field", "no such field");
-        }
+        Err(Lost::NoField) => *verdict = Verdict::Refused(Cause::NoField(line.len() + 1)),
         Err(Lost::Broken(broken)) => {
-            *verdict = refused_whole(
-                broken.at + 1,
-                name_of_quoting(broken.quoting),
-                message_of_quoting(broken.quoting),
-            );
+            *verdict = Verdict::Refused(Cause::Broken(broken.quoting, broken.at + 1));
         }
         Ok(part) => judge_text(request, last, part, printed, verdict),
-    }
-}
-
-/// Returns the verdict on a line that has no text. `reason` is the name of the reason.
-fn refused_whole<'a>(column: usize, reason: &'static str, message: &'static str) -> Verdict<'a> {
-    Verdict::Refused(Refusal {
-        column,
-        end: column,
-        reason,
-        message: words(message),
-        marked: None,
-        instant: None,
-    })
-}
-
-/// Returns the name of the reason why a line is no record of RFC 4180.
-fn name_of_quoting(quoting: Quoting) -> &'static str {
-    match quoting {
-        Quoting::NotClosed => "quote_not_closed",
-        Quoting::TextAfter => "text_after_quote",
-        Quoting::Stray => "stray_quote",
-    }
-}
-
-/// Returns the message about a line that is no record of RFC 4180.
-fn message_of_quoting(quoting: Quoting) -> &'static str {
-    match quoting {
-        Quoting::NotClosed => "a quote is not closed in this line",
-        Quoting::TextAfter => "text after a closing quote",
-        Quoting::Stray => "a quote in a field without quotes",
     }
 }
 
@@ -209,16 +171,7 @@ fn judge_instant<'a>(
 ) {
     match read_instant(kind, part.text) {
         Ok(Some(instant)) => *verdict = order(instant, last, part),
-        Ok(None) => {
-            *verdict = Verdict::Refused(Refusal {
-                column: part.start + 1,
-                end: part.start + 1,
-                reason: "no_instant",
-                message: words("no instant"),
-                marked: Some(Marked::first(part.text)),
-                instant: None,
-            });
-        }
+        Ok(None) => *verdict = Verdict::Refused(Cause::Untimed(whole_text(part))),
         Err(error) => refuse(verdict, true, error, part),
     }
 }
@@ -226,15 +179,16 @@ fn judge_instant<'a>(
 /// Returns the verdict on a text that names this instant: `Timed`, or `Refused` if the instant is before `last`.
 fn order(instant: Instant, last: Option<Instant>, part: Part<'_>) -> Verdict<'_> {
     match last {
-        Some(last) if instant < last => Verdict::Refused(Refusal {
-            column: part.start + 1,
-            end: part.start + 1,
-            reason: "earlier",
-            message: words("earlier than the line before"),
-            marked: Some(Marked::first(part.text)),
-            instant: Some(instant),
-        }),
+        Some(last) if instant < last => Verdict::Refused(Cause::Early(instant, whole_text(part))),
         _ => Verdict::Timed(instant),
+    }
+}
+
+/// Returns the text with its column, for a text that is refused as a whole.
+fn whole_text(part: Part<'_>) -> WholeText<'_> {
+    WholeText {
+        column: part.start + 1,
+        text: part.text,
     }
 }
 
@@ -244,53 +198,9 @@ fn order(instant: Instant, last: Option<Instant>, part: Part<'_>) -> Verdict<'_>
 /// The function is not inlined: otherwise its local variables would be set to zero for each line, also if the line is accepted.
 #[inline(never)]
 fn refuse<'a>(verdict: &mut Verdict<'a>, has_offset: bool, error: LocatedError, part: Part<'a>) {
-    let wrong = error.part_in(part.text);
-    let why = explain(has_offset, error, wrong, part.text);
-    *verdict = Verdict::Refused(Refusal {
-        column: part.start + part.width_of(wrong.begin) + 1,
-        end: part.start + part.width_of(wrong.end) + 1,
-        reason: why.reason,
-        message: why.message,
-        marked: Some(Marked {
-            text: part.text,
-            part: wrong,
-        }),
-        instant: None,
-    });
-}
-
-/// Why a text is refused.
-#[derive(Clone, Copy)]
-struct Explanation<'a> {
-    /// The name of the reason.
-    reason: &'static str,
-    /// The message.
-    message: Message<'a>,
-}
-
-/// Returns why a reader refuses a text with this error. `wrong` is the part of the text that is wrong. If `has_offset` is `true` and
-/// this part begins with a space before an offset, this space is the reason, and the message is about it. Otherwise the reason and
-/// the message are those of the error.
-#[inline(always)]
-fn explain(has_offset: bool, error: LocatedError, wrong: WrongPart, text: &[u8]) -> Explanation<'_> {
-    if has_offset && is_spaced(&text[wrong.begin..]) {
-        Explanation {
-            reason: "space_before_offset",
-            message: words("a space stands before the offset"),
-        }
-    } else {
-        Explanation {
-            reason: error.reason.name(),
-            message: error.message_in(text),
-        }
-    }
-}
-
-/// Returns whether the bytes begin with a space and the beginning of an offset: `Z`, `z`, or a sign and a digit.
-fn is_spaced(bytes: &[u8]) -> bool {
-    match bytes {
-        [b' ', b'Z' | b'z', ..] => true,
-        [b' ', b'+' | b'-', digit, ..] => digit.is_ascii_digit(),
-        _ => false,
-    }
+    *verdict = Verdict::Refused(Cause::Unread(Unread {
+        has_offset,
+        error,
+        part,
+    }));
 }

@@ -4,10 +4,13 @@
 #![forbid(unsafe_code)]
 
 mod arguments;
+mod cause;
 mod checker;
 mod checking;
+mod coloured;
 mod column;
 mod csv;
+mod explaining;
 mod instants;
 mod json;
 mod judge;
@@ -18,8 +21,11 @@ mod pointed;
 mod printed;
 mod printing;
 mod reading;
+mod refusal;
 mod report;
 mod request;
+mod room;
+mod second;
 mod shown;
 mod skipped;
 mod status;
@@ -32,9 +38,9 @@ use column::{column_in_record, column_named};
 use ixdtf_buffers::error::RunError;
 use request::{Extent, Request};
 use status::status_of;
-use std::fmt::Display;
+use std::fmt::{self, Display};
 use std::fs::File;
-use std::io::{self, ErrorKind, Read, Write, stdin, stdout};
+use std::io::{self, ErrorKind, IsTerminal, Read, Stderr, Write, stderr, stdin, stdout};
 use std::process::ExitCode;
 use tally::Tally;
 use verdict::LINE_LIMIT;
@@ -64,16 +70,18 @@ Which part of a line is read:
   --fields A-B     fields A to B, between which a line has one space
   --csv            with --field: the lines are records of RFC 4180, with fields in quotes
   --separator C    the byte between two fields; without this option, it is a tab,
-                   or a comma with --csv
+                   or a comma with --csv, or a space with --fields
   ixdtf_check --field 3 --separator , table.csv
   ixdtf_check --header --field time --separator , table.csv
   ixdtf_check --fields 1-2 server.log
   ixdtf_check --csv --header --field time table.csv
 
 What is written:
-  --canonical      the canonical text of each accepted text
+  --canonical      the canonical text of each accepted text; then the reports go to
+                   standard error
   --max-reports N  at most N reports, and the number of the others
   --format FORMAT  the form of the reports: text (the default), or json
+  --color WHEN     colours in the reports: auto (the default), always or never
   --quiet          nothing about lines that are refused
   ixdtf_check --canonical --quiet dates.txt
 
@@ -84,7 +92,7 @@ Other:
   The file - is standard input.
 
 Exit status: 0 if every line was accepted, 1 if a line was refused, and 2 if an
-argument is wrong, or if a file or standard output failed.";
+argument is wrong, or if a file, standard output or a report failed.";
 
 const VERSION: &str = concat!("ixdtf_check ", env!("CARGO_PKG_VERSION"));
 
@@ -96,10 +104,19 @@ struct Outcome {
     most_reports: u64,
     /// Whether lines that are refused are reported.
     shows_refusals: bool,
-    /// Whether a write to standard output has failed. No file is checked after this.
+    /// Whether a write to standard output has failed, or a write of a report to standard error. No file is checked after this.
     is_closed: bool,
-    /// Whether standard output is a pipe that nobody reads. Then the program writes nothing more, not even to standard error.
+    /// Whether standard output is a pipe that nobody reads, or a write of a report to standard error has failed. Then the program writes
+    /// nothing more, not even to standard error.
     is_quiet: bool,
+}
+
+/// The two outputs of the checks.
+struct Outputs {
+    /// Standard output.
+    output: Box<dyn Write>,
+    /// The output of the reports with `--canonical`: standard error, which has no buffer.
+    reports: Stderr,
 }
 
 impl Outcome {
@@ -141,23 +158,37 @@ fn main() -> ExitCode {
     if files.is_empty() {
         files.push("-");
     }
-    let mut output = standard_output();
+    let is_terminal = if options.has_two_outputs() { stderr().is_terminal() } else { stdout().is_terminal() };
+    options.settle_color(is_terminal && shows_colors());
+    let mut outputs = Outputs { output: standard_output(), reports: stderr() };
     let mut outcome = Outcome { total: Tally::new(), has_failed: false, most_reports: u64::MAX, shows_refusals: false, is_closed: false, is_quiet: false };
     let field_name = options.field_name().map(|it| it.in_word(&words[it.word]));
     for name in files {
         if !outcome.is_closed {
-            check_file(&options, field_name, name, &mut output, &mut outcome);
+            check_file(&options, field_name, name, &mut outputs, &mut outcome);
         }
     }
     let Tally { lines, refused, bytes } = outcome.total;
-    if !outcome.is_quiet {
+    if !outcome.is_quiet && options.has_counts() {
         let more = outcome.unreported();
         if more > 0 {
-            eprintln!("{more} more refused lines");
+            say(format_args!("{more} more refused lines"));
         }
-        eprintln!("{lines} lines, {refused} refused, {bytes} bytes");
+        say(format_args!("{lines} lines, {refused} refused, {bytes} bytes"));
     }
     ExitCode::from(status_of(outcome.has_failed, refused))
+}
+
+/// Returns whether a terminal shows colours, and the user does not forbid them: `NO_COLOR` is not set or is empty, and `TERM` is not `dumb`.
+fn shows_colors() -> bool {
+    let is_forbidden = std::env::var_os("NO_COLOR").is_some_and(|value| !value.is_empty());
+    let is_dumb = std::env::var_os("TERM").is_some_and(|value| value == "dumb");
+    !is_forbidden && !is_dumb
+}
+
+/// Writes a line to standard error. If the line cannot be written, the program goes on: nothing is left that could say so.
+fn say(line: fmt::Arguments<'_>) {
+    let _ = writeln!(stderr(), "{line}");
 }
 
 /// Writes the usage or the version to standard output.
@@ -170,22 +201,22 @@ fn show(text: &str) -> ExitCode {
 
 /// Reports what is wrong with an argument, and which argument was probably meant.
 fn refuse_word(word: &str, wrong: Wrong) -> ExitCode {
-    eprintln!("ixdtf_check: {word}: {}", wrong.message());
+    say(format_args!("ixdtf_check: {word}: {}", wrong.message()));
     if let Some(meant) = meant_by(word, wrong) {
-        eprintln!("Did you mean {meant}?");
+        say(format_args!("Did you mean {meant}?"));
     }
     point_to_help()
 }
 
 /// Reports what is wrong with the arguments.
 fn refuse(message: &str) -> ExitCode {
-    eprintln!("ixdtf_check: {message}");
+    say(format_args!("ixdtf_check: {message}"));
     point_to_help()
 }
 
 /// Writes how to see the usage. Returns the exit status 2.
 fn point_to_help() -> ExitCode {
-    eprintln!("ixdtf_check --help shows the options.");
+    say(format_args!("ixdtf_check --help shows the options."));
     ExitCode::from(2)
 }
 
@@ -202,30 +233,30 @@ fn standard_output() -> Box<dyn Write> {
 }
 
 /// Checks the file with this name. The name `-` means standard input.
-fn check_file<W: Write>(options: &Options, field_name: Option<&[u8]>, name: &str, output: &mut W, outcome: &mut Outcome) {
+fn check_file(options: &Options, field_name: Option<&[u8]>, name: &str, outputs: &mut Outputs, outcome: &mut Outcome) {
     let Some(request) = options.request(name) else {
         return;
     };
     if name == "-" {
-        return check_reader(&mut stdin().lock(), options, field_name, request, output, outcome);
+        return check_reader(&mut stdin().lock(), options, field_name, request, outputs, outcome);
     }
     match File::open(name) {
-        Ok(mut file) => check_reader(&mut file, options, field_name, request, output, outcome),
+        Ok(mut file) => check_reader(&mut file, options, field_name, request, outputs, outcome),
         Err(error) => complain(name, error, outcome),
     }
 }
 
 /// Checks the lines of the reader. If the option `--field` has a name, the first line of the reader says which field has this name.
-fn check_reader<R: Read, W: Write>(
+fn check_reader<R: Read>(
     reader: &mut R,
     options: &Options,
     field_name: Option<&[u8]>,
     mut request: Request<'_>,
-    output: &mut W,
+    outputs: &mut Outputs,
     outcome: &mut Outcome,
 ) {
     let Some(field_name) = field_name else {
-        return check_request(reader, request, output, outcome);
+        return check_request(reader, request, outputs, outcome);
     };
     let front = match front_of(reader) {
         Ok(front) => front,
@@ -241,7 +272,7 @@ fn check_reader<R: Read, W: Write>(
     match column {
         Ok(before) => {
             request.field = Some(options.field_after(before));
-            check_request(&mut front.as_slice().chain(reader), request, output, outcome);
+            check_request(&mut front.as_slice().chain(reader), request, outputs, outcome);
         }
         Err(error) => complain(request.name, error.message(), outcome),
     }
@@ -262,12 +293,13 @@ fn front_of<R: Read>(reader: &mut R) -> io::Result<Vec<u8>> {
 }
 
 /// Checks the lines of the reader, as the request says.
-fn check_request<R: Read, W: Write>(reader: &mut R, mut request: Request<'_>, output: &mut W, outcome: &mut Outcome) {
+fn check_request<R: Read>(reader: &mut R, mut request: Request<'_>, outputs: &mut Outputs, outcome: &mut Outcome) {
     let name = request.name;
     outcome.limit_reports(&mut request);
     let mut watched = Watched { inner: reader, error: None };
-    let mut watched_output = Watched { inner: output, error: None };
-    let checked = check(&mut watched, &mut watched_output, &request);
+    let mut output = Watched { inner: &mut outputs.output, error: None };
+    let mut reports = Watched { inner: &mut outputs.reports, error: None };
+    let checked = check(&mut watched, &mut output, &mut reports, &request);
     outcome.total.add(checked.tally);
     match checked.end {
         Ok(()) => {}
@@ -278,7 +310,7 @@ fn check_request<R: Read, W: Write>(reader: &mut R, mut request: Request<'_>, ou
         Err(RunError::Write) => {
             outcome.is_closed = true;
             outcome.has_failed = true;
-            outcome.is_quiet = watched_output.error.is_some_and(|error| error.kind() == ErrorKind::BrokenPipe);
+            outcome.is_quiet = reports.error.is_some() || output.error.is_some_and(|error| error.kind() == ErrorKind::BrokenPipe);
             if !outcome.is_quiet {
                 complain("standard output", "cannot be written", outcome);
             }
@@ -289,7 +321,7 @@ fn check_request<R: Read, W: Write>(reader: &mut R, mut request: Request<'_>, ou
 /// Reports what failed, and why.
 fn complain<D: Display>(name: &str, why: D, outcome: &mut Outcome) {
     outcome.has_failed = true;
-    eprintln!("ixdtf_check: {name}: {why}");
+    say(format_args!("ixdtf_check: {name}: {why}"));
 }
 
 /// A reader or a writer that keeps the error of a call that failed.

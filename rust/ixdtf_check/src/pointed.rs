@@ -15,12 +15,13 @@ const BEFORE_PLACE: usize = 48;
 /// The greatest number of characters that are shown from the position on.
 const FROM_PLACE: usize = 24;
 
-/// The greatest number of bytes of a report after the name of the file.
+/// The size in bytes of the array in which a report is made.
 ///
-/// The numbers of the line and of the column have at most 44 bytes, with the colons and the space. A message that is written into
-/// the same array has at most 160 bytes, and a newline follows it. The two lines under the message have at most 368 bytes: `..`, 72
-/// characters of four bytes, `..`, a newline, 50 spaces, 24 marks and a newline.
-pub const ROOM: usize = 573;
+/// The name of a file that is written into the array has at most 256 bytes. The numbers of the line and of the column have at most 45
+/// bytes, with the colons and the space. A message that is written into the array has three parts of at most 120 bytes, and a newline
+/// follows it. The two lines under the message have at most 368 bytes: `..`, 72 characters of four bytes, `..`, a newline, 50 spaces,
+/// 24 marks and a newline. The line with the hint has `hint: `, three parts of at most 120 bytes, and a newline.
+pub const ROOM: usize = 1397;
 
 /// The greatest number of marks.
 const MARKS: &[u8; 24] = b"^^^^^^^^^^^^^^^^^^^^^^^^";
@@ -47,6 +48,7 @@ const LEAD: u8 = 0xC2;
 ///
 /// First tests whether the bytes near the position are ASCII: at most 48 bytes before it, and at most 24 bytes from it on.
 /// If they are all ASCII, they are the part that is shown.
+#[inline(always)]
 pub fn add_lines(room: &mut [u8; ROOM], at: usize, bytes: &[u8], part: WrongPart) -> usize {
     let near = near_window(bytes, part.begin);
     if !bytes[near.start..near.end].is_ascii() {
@@ -59,6 +61,7 @@ pub fn add_lines(room: &mut [u8; ROOM], at: usize, bytes: &[u8], part: WrongPart
 }
 
 /// Returns the window of the bytes near the position: at most 48 before it, and at most 24 from it on.
+#[inline(always)]
 fn near_window(bytes: &[u8], place: usize) -> Window {
     let mark = place.min(bytes.len());
     let start = mark.saturating_sub(BEFORE_PLACE);
@@ -79,6 +82,7 @@ fn indent_behind(start: usize, count: usize) -> usize {
 
 /// Returns whether the bytes are UTF-8. The bytes in the window are known to be ASCII. So the function tests nothing if the
 /// window contains the complete text.
+#[inline(always)]
 fn is_text(bytes: &[u8], window: Window) -> bool {
     if window.start == 0 && window.end >= bytes.len() {
         return true;
@@ -87,6 +91,8 @@ fn is_text(bytes: &[u8], window: Window) -> bool {
 }
 
 /// Adds the lines for bytes that can contain non-ASCII bytes near the position. Adds nothing if the bytes are not UTF-8.
+#[cold]
+#[inline(never)]
 fn add_any(room: &mut [u8; ROOM], at: usize, bytes: &[u8], part: WrongPart) -> usize {
     match std::str::from_utf8(bytes) {
         Ok(_) => add_shown(
@@ -103,6 +109,7 @@ fn add_any(room: &mut [u8; ROOM], at: usize, bytes: &[u8], part: WrongPart) -> u
 
 /// Adds the part of a text that is shown, and the mark under it. If `is_ascii` is `true`, this part is ASCII. Then it has no
 /// control character of two bytes, and one call of `add_run` adds it.
+#[inline(always)]
 fn add_shown(
     room: &mut [u8; ROOM],
     at: usize,
@@ -122,6 +129,7 @@ fn add_shown(
 }
 
 /// Adds what follows the shown part of a text: `..` if the text continues, and the line with the marks.
+#[inline(always)]
 fn add_behind(room: &mut [u8; ROOM], at: usize, bytes: &[u8], window: Window, marks: usize) -> usize {
     let third = add_cut_mark(room, at, window.end < bytes.len());
     let first = add_spaces(room, third, window.indent);
@@ -130,6 +138,7 @@ fn add_behind(room: &mut [u8; ROOM], at: usize, bytes: &[u8], window: Window, ma
 }
 
 /// Returns the number of marks under a part: one for each byte, but at least one, and at most 24.
+#[inline(always)]
 fn marks_of(part: WrongPart) -> usize {
     if part.end <= part.begin {
         return 1;
@@ -212,6 +221,7 @@ fn begins_character(byte: u8) -> bool {
 }
 
 /// Adds `..` if a part of the text is left out.
+#[inline(always)]
 fn add_cut_mark(room: &mut [u8; ROOM], at: usize, is_cut: bool) -> usize {
     if is_cut {
         add_bytes(room, at, b"..")
@@ -239,6 +249,7 @@ fn add_masked(room: &mut [u8; ROOM], at: usize, bytes: &[u8]) -> usize {
 }
 
 /// Adds the bytes, with `.` instead of each control character of one byte.
+#[inline(always)]
 fn add_run(room: &mut [u8; ROOM], at: usize, bytes: &[u8]) -> usize {
     let end = at + bytes.len();
     let whole = &mut room[..];
@@ -248,6 +259,7 @@ fn add_run(room: &mut [u8; ROOM], at: usize, bytes: &[u8]) -> usize {
 
 /// Writes each byte of `bytes` as `shown` returns it. Both slices are cut to the same length, so that the compiled code can write
 /// many bytes at once.
+#[inline(always)]
 fn show(room: &mut [u8], bytes: &[u8]) {
     let bytes = &bytes[..room.len()];
     for index in 0..room.len() {
@@ -273,6 +285,7 @@ fn begins_control(bytes: &[u8], place: usize) -> bool {
 ///
 /// The function always writes the greatest number of spaces, because the compiled code can copy a fixed number of bytes without
 /// a call of another function. The next bytes overwrite the spaces after the position of the mark.
+#[inline(always)]
 fn add_spaces(room: &mut [u8; ROOM], at: usize, indent: usize) -> usize {
     let _end = add_bytes(room, at, SPACES);
     at + indent + 1
@@ -281,6 +294,7 @@ fn add_spaces(room: &mut [u8; ROOM], at: usize, indent: usize) -> usize {
 /// Adds the marks.
 ///
 /// Like `add_spaces`, the function always writes the greatest number of them. The next bytes overwrite those that are too many.
+#[inline(always)]
 fn add_marks(room: &mut [u8; ROOM], at: usize, count: usize) -> usize {
     let _end = add_bytes(room, at, MARKS);
     at + count

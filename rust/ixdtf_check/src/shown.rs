@@ -1,11 +1,14 @@
 // Made by tools/to_rust.py of crates/ixdtf_checks/src/shown.rt. Do not edit.
 
-//! Makes the bytes of what a message shows of a refused text.
+//! Writes a message, and makes the bytes of what a message shows of a refused text.
 //!
 //! `Display` of [`Shown`] writes the same bytes. The program makes them without `core::fmt`, because that is faster.
 
-use ixdtf::Shown;
+use ixdtf::{Message, Shown};
 use ixdtf_buffers::adding::{add_byte, add_bytes};
+use ixdtf_buffers::error::RunError;
+use ixdtf_buffers::output::Output;
+use ixdtf_buffers::sink::Sink;
 
 /// The size in bytes of the array in which `shown_bytes` writes.
 ///
@@ -14,60 +17,80 @@ pub const SHOWN_ROOM: usize = 40;
 
 /// Returns what a message shows of the text, as `Display` of `Shown` writes it.
 ///
-/// The function writes a character in backticks, or the number of a character or of a byte, into `room`, and returns a prefix of
-/// `room`. It copies neither a part of the text nor a name such as `a space`.
+/// The function writes a character or a byte into `room`, and returns a prefix of `room`. It does not copy a part of the text.
 pub fn shown_bytes<'b>(shown: Shown<'b>, room: &'b mut [u8; SHOWN_ROOM]) -> &'b [u8] {
     match shown {
         Shown::Nothing => b"",
         Shown::Part(text) => text.as_bytes(),
-        Shown::Character(character) => character_bytes(character, room),
-        Shown::Byte(byte) => byte_bytes(byte, room),
+        Shown::Character(character) => {
+            let end = add_character(room, 0, character);
+            &room[..end]
+        }
+        Shown::Byte(byte) => {
+            let end = add_byte_number(room, 0, byte);
+            &room[..end]
+        }
     }
 }
 
-/// Returns the character in backticks, or its name, or its number. Most characters are returned in backticks, so they are tested
-/// first.
-fn character_bytes(character: char, room: &mut [u8; SHOWN_ROOM]) -> &[u8] {
+/// Writes a message to the output.
+#[cold]
+#[inline(never)]
+pub fn put_message<K: Sink>(
+    output: &mut Output<'_, K>,
+    message: &Message<'_>,
+) -> Result<(), RunError> {
+    let mut array = [0; SHOWN_ROOM];
+    let shown = shown_bytes(message.shown, &mut array);
+    output.put(message.before.as_bytes())?;
+    output.put(shown)?;
+    output.put(message.after.as_bytes())
+}
+
+/// Adds the character in backticks, or its name, or its number. Returns the index after the added bytes. Most characters are added
+/// in backticks, so they are tested first.
+#[inline(always)]
+pub fn add_character<const SIZE: usize>(room: &mut [u8; SIZE], at: usize, character: char) -> usize {
     match character {
-        '!'..='_' | 'a'..='~' => quoted_bytes(character as u8, room),
-        ' ' => b"a space",
-        '\t' => b"a tab",
-        '\n' => b"a newline",
-        '\r' => b"a carriage return",
-        '`' => b"a backtick",
-        _ => number_bytes(character, room),
+        '!'..='_' | 'a'..='~' => add_quoted(room, at, character as u8),
+        ' ' => add_bytes(room, at, b"a space"),
+        '\t' => add_bytes(room, at, b"a tab"),
+        '\n' => add_bytes(room, at, b"a newline"),
+        '\r' => add_bytes(room, at, b"a carriage return"),
+        '`' => add_bytes(room, at, b"a backtick"),
+        _ => add_named_number(room, at, character),
     }
 }
 
-/// Returns the byte in backticks.
-fn quoted_bytes(byte: u8, room: &mut [u8; SHOWN_ROOM]) -> &[u8] {
-    let quoted = add_byte(room, 0, b'`');
+/// Adds the byte in backticks.
+#[inline(always)]
+fn add_quoted<const SIZE: usize>(room: &mut [u8; SIZE], at: usize, byte: u8) -> usize {
+    let quoted = add_byte(room, at, b'`');
     let last = add_byte(room, quoted, byte);
-    let end = add_byte(room, last, b'`');
-    &room[..end]
+    add_byte(room, last, b'`')
 }
 
-/// Returns the number of the character, and its name if people confuse it with another character.
+/// Adds the number of the character, and its name if people confuse it with another character.
 ///
 /// The function is not inlined, because few characters are shown by their number.
 #[cold]
 #[inline(never)]
-fn number_bytes(character: char, room: &mut [u8; SHOWN_ROOM]) -> &[u8] {
-    let number = add_bytes(room, 0, b"U+");
+fn add_named_number<const SIZE: usize>(room: &mut [u8; SIZE], at: usize, character: char) -> usize {
+    let number = add_bytes(room, at, b"U+");
     let name = add_number(room, number, u32::from(character));
-    let end = add_bytes(room, name, look_alike(character));
-    &room[..end]
+    add_bytes(room, name, look_alike(character))
 }
 
-/// Returns the number of a byte with which no character begins.
-fn byte_bytes(byte: u8, room: &mut [u8; SHOWN_ROOM]) -> &[u8] {
-    let number = add_bytes(room, 0, b"the byte 0x");
-    let end = add_two_digits(room, number, byte);
-    &room[..end]
+/// Adds the number of a byte with which no character begins.
+#[cold]
+#[inline(never)]
+pub fn add_byte_number<const SIZE: usize>(room: &mut [u8; SIZE], at: usize, byte: u8) -> usize {
+    let number = add_bytes(room, at, b"the byte 0x");
+    add_two_digits(room, number, byte)
 }
 
 /// Writes the number of a character in four to six hexadecimal digits, and returns the index after it.
-fn add_number(room: &mut [u8; SHOWN_ROOM], at: usize, number: u32) -> usize {
+fn add_number<const SIZE: usize>(room: &mut [u8; SIZE], at: usize, number: u32) -> usize {
     let last_four = add_first_digits(room, at, (number / 0x1_0000) as u8);
     let last_two = add_two_digits(room, last_four, (number / 0x100 % 0x100) as u8);
     add_two_digits(room, last_two, (number % 0x100) as u8)
@@ -75,7 +98,7 @@ fn add_number(room: &mut [u8; SHOWN_ROOM], at: usize, number: u32) -> usize {
 
 /// Writes the hexadecimal digits before the last four digits of the number of a character, and returns the index after them.
 /// There are at most two such digits. If `number` is 0, there are none.
-fn add_first_digits(room: &mut [u8; SHOWN_ROOM], at: usize, number: u8) -> usize {
+fn add_first_digits<const SIZE: usize>(room: &mut [u8; SIZE], at: usize, number: u8) -> usize {
     match number {
         0 => at,
         1..16 => add_byte(room, at, digit(number)),
@@ -84,7 +107,7 @@ fn add_first_digits(room: &mut [u8; SHOWN_ROOM], at: usize, number: u8) -> usize
 }
 
 /// Writes the number of a byte in two hexadecimal digits, and returns the index after them.
-pub fn add_two_digits(room: &mut [u8; SHOWN_ROOM], at: usize, byte: u8) -> usize {
+pub fn add_two_digits<const SIZE: usize>(room: &mut [u8; SIZE], at: usize, byte: u8) -> usize {
     let last = add_byte(room, at, digit(byte / 16));
     add_byte(room, last, digit(byte % 16))
 }

@@ -4,7 +4,7 @@
 use std::io::Write;
 use std::process::{Command, Stdio};
 
-/// The six members of an object.
+/// The members of an object. An object without a hint has six members.
 #[derive(Debug, PartialEq)]
 struct Object {
     file: String,
@@ -13,6 +13,7 @@ struct Object {
     end: u64,
     reason: String,
     text: String,
+    hint: Option<String>,
 }
 
 /// Text of JSON that is not read yet.
@@ -70,6 +71,15 @@ impl Rest<'_> {
         }
     }
 
+    /// Reads the last member of an object, if it is a hint.
+    fn hint(&mut self) -> Option<String> {
+        if self.0.starts_with('}') {
+            return None;
+        }
+        self.name(",", "hint");
+        Some(self.string())
+    }
+
     /// Reads an object.
     fn object(&mut self) -> Object {
         self.name("{", "file");
@@ -84,9 +94,10 @@ impl Rest<'_> {
         let reason = self.string();
         self.name(",", "text");
         let text = self.string();
+        let hint = self.hint();
         self.pass("}");
         assert_eq!(self.0, "");
-        Object { file, line, column, end, reason, text }
+        Object { file, line, column, end, reason, text, hint }
     }
 }
 
@@ -107,10 +118,15 @@ fn objects(arguments: &[&str], input: &[u8]) -> Vec<Object> {
     written.lines().map(|line| Rest(line).object()).collect()
 }
 
-/// Returns an object about standard input.
+/// Returns an object about standard input, without a hint.
 fn object(line: u64, columns: (u64, u64), reason: &str, text: &str) -> Object {
     let (column, end) = columns;
-    Object { file: "-".to_string(), line, column, end, reason: reason.to_string(), text: text.to_string() }
+    Object { file: "-".to_string(), line, column, end, reason: reason.to_string(), text: text.to_string(), hint: None }
+}
+
+/// Returns an object with this hint.
+fn hinted(object: Object, hint: &str) -> Object {
+    Object { hint: Some(hint.to_string()), ..object }
 }
 
 #[test]
@@ -119,8 +135,8 @@ fn an_object_can_be_read_back() {
         object(1, (9, 11), "day_range", "the day is 30, and has to be 01 to 29"),
         object(3, (6, 7), "month_digits", "expected a digit of the month, which has two, found `\"`"),
         object(4, (6, 7), "month_digits", "expected a digit of the month, which has two, found `\\`"),
-        object(5, (5, 6), "after_year", "expected `-` or a digit of the month, found U+2212 (minus sign)"),
-        object(6, (17, 18), "space_before_offset", "a space stands before the offset"),
+        hinted(object(5, (5, 6), "after_year", "expected `-` or a digit of the month, found U+2212 (minus sign)"), "write `-` instead"),
+        hinted(object(6, (17, 18), "space_before_offset", "a space stands before the offset"), "remove the space before the offset"),
     ];
     let input = "2024-02-30\n2024-02-28\n2024-\"2\n2024-\\2\n2024\u{2212}02\n2024-02-28T08:48 +01\n";
     assert_eq!(objects(&[], input.as_bytes()), wanted);

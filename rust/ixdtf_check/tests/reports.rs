@@ -25,13 +25,14 @@ fn each_byte_of_the_part_has_a_mark() {
     let order = "-:1:4: the unit `Y` stands too late; the order is Y, M, W, D, each once\nP1D1Y\n   ^^\n";
     assert_eq!(reports(&["--kind", "duration"], b"P1D1Y\n"), order);
     let bracket = "-:1:18: the annotation's key is not known; without `!`, the annotation would be ignored\n\
-                   2024-03-02T08:48Z[!knort=blargel]\n                 ^^^^^^^^^^^^^^^^\n";
+                   2024-03-02T08:48Z[!knort=blargel]\n                 ^^^^^^^^^^^^^^^^\nhint: remove `!` if the annotation may be ignored\n";
     assert_eq!(reports(&[], b"2024-03-02T08:48Z[!knort=blargel]\n"), bracket);
 }
 
 #[test]
 fn a_character_has_a_number_and_a_name() {
-    let minus = "-:1:5: expected `-` or a digit of the month, found U+2212 (minus sign)\n2024\u{2212}03\u{2212}02\n    ^\n";
+    let minus = "-:1:5: expected `-` or a digit of the month, found U+2212 (minus sign)\n2024\u{2212}03\u{2212}02\n    ^\n\
+                 hint: write `-` instead\n";
     assert_eq!(reports(&[], "2024\u{2212}03\u{2212}02\n".as_bytes()), minus);
 }
 

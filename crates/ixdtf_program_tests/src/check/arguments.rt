@@ -143,6 +143,37 @@ fn asks_for_date_times_where_nothing_is_said(rt: HostRuntime) {
     assert!(rt; !request.is_quiet);
 }
 
+/// Options, whether the reports go to a terminal that shows colours, and the form of the reports.
+const COLORS: &[(&[&str], bool, Format)] = &[
+    (&[], true, Format::Coloured),
+    (&[], false, Format::Text),
+    (&["--color", "auto"], true, Format::Coloured),
+    (&["--color=auto"], false, Format::Text),
+    (&["--color=always"], false, Format::Coloured),
+    (&["--color=never"], true, Format::Text),
+    (&["--color=always", "--color=never"], true, Format::Text),
+    (&["--format=json"], true, Format::Json),
+    (&["--format=json", "--color=always"], true, Format::Json),
+];
+
+#[test]
+fn decides_about_colours(rt: HostRuntime) {
+    for (words, is_terminal, format) in COLORS {
+        let mut options = options_of(&rt, words);
+        options.settle_color(*is_terminal);
+        let Some(request) = options.request("f") else {
+            panic!(rt; "no request");
+        };
+        assert_eq!(rt; request.format, *format);
+    }
+}
+
+#[test]
+fn knows_where_the_reports_go(rt: HostRuntime) {
+    assert!(rt; !options_of(&rt, &["--color=always"]).has_two_outputs());
+    assert!(rt; options_of(&rt, &["--canonical"]).has_two_outputs());
+}
+
 /// Words, and the reason why they do not fit together, if there is one.
 const TOGETHER: &[(&[&str], Option<Wrong>)] = &[
     (&[], None),
@@ -150,6 +181,8 @@ const TOGETHER: &[(&[&str], Option<Wrong>)] = &[
     (&["--kind"], Some(Wrong::MissingValue)),
     (&["--comment"], Some(Wrong::MissingValue)),
     (&["--format"], Some(Wrong::MissingValue)),
+    (&["--color"], Some(Wrong::MissingValue)),
+    (&["--color=always", "--format=json", "--canonical"], None),
     (&["--format=json", "--format", "text"], None),
     (&["--format=json", "--canonical", "--quiet"], None),
     (&["--skip-blank"], None),
@@ -212,6 +245,8 @@ const WITHOUT_VALUES: &[(&str, &str, Wrong)] = &[
     ("--format", "xml", Wrong::UnknownFormat),
     ("--format", "", Wrong::UnknownFormat),
     ("--format", "JSON", Wrong::UnknownFormat),
+    ("--color", "yes", Wrong::UnknownColor),
+    ("--color", "", Wrong::UnknownColor),
 ];
 
 /// Refused words, each with the reason and the word that the user probably meant.
@@ -219,7 +254,11 @@ const MEANT: &[(&str, Wrong, Option<&str>)] = &[
     ("--kid", Wrong::UnknownOption, Some("--kind")),
     ("--quite", Wrong::UnknownOption, Some("--quiet")),
     ("--seperator=,", Wrong::UnknownOption, Some("--separator")),
-    ("--colour", Wrong::UnknownOption, None),
+    ("--colour", Wrong::UnknownOption, Some("--color")),
+    ("--blue", Wrong::UnknownOption, None),
+    ("--color=allways", Wrong::UnknownColor, Some("always")),
+    ("Never", Wrong::UnknownColor, Some("never")),
+    ("green", Wrong::UnknownColor, None),
     ("datetime", Wrong::UnknownKind, Some("date-time")),
     ("--kind=zonename", Wrong::UnknownKind, Some("zone-name")),
     ("RFC3339", Wrong::UnknownKind, Some("rfc3339")),

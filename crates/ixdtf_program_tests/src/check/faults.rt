@@ -3,9 +3,12 @@
 ghost use Rattle.std.specs.Prelude.{◌<◌};
 
 use super::DATE_TIMES;
+use ixdtf::parsers::Profile;
 use ixdtf_buffers::error::RunError;
 use ixdtf_buffers::output::Output;
 use ixdtf_checks::checker::{Checked, check};
+use ixdtf_checks::kind::Kind;
+use ixdtf_checks::request::{Format, Request, Task};
 use ixdtf_checks::tally::Tally;
 use std::io;
 use std::io::{ErrorKind, Read, Write};
@@ -15,6 +18,18 @@ const TWO_LINES: &[u8] = b"2020-13-01\n2020-W01-1\n";
 
 const FIRST_REPORT: &[u8] =
     b"f:1:6: the month is 13, and has to be 01 to 12\n2020-13-01\n     ^^\n";
+
+/// A request that prints the canonical texts of date-times.
+const PRINTED: Request<'static> = Request {
+    name: "f",
+    task: Task::Print(Kind::DateTime),
+    profile: Profile::Crate,
+    field: None,
+    skips: None,
+    most_reports: u64::MAX,
+    format: Format::Text,
+    is_quiet: false,
+};
 
 /// A reader that returns some bytes, and then fails.
 #[derive(Drop)]
@@ -55,7 +70,7 @@ fn stops_at_a_read_that_fails(rt: HostRuntime) -> Result<(), Fail> {
         rest: &TWO_LINES[..20],
     };
     let mut written = Vec::new(rt.alloc());
-    let checked = check(&mut reader, &mut written, &DATE_TIMES);
+    let checked = check(&mut reader, &mut written, &mut ClosedWriter, &DATE_TIMES);
     assert_eq!(rt;
         checked,
         Checked {
@@ -74,7 +89,12 @@ fn stops_at_a_read_that_fails(rt: HostRuntime) -> Result<(), Fail> {
 #[test]
 fn stops_at_a_write_that_fails(rt: HostRuntime) {
     let mut reader = TWO_LINES;
-    let checked = check(&mut reader, &mut ClosedWriter, &DATE_TIMES);
+    let checked = check(
+        &mut reader,
+        &mut ClosedWriter,
+        &mut ClosedWriter,
+        &DATE_TIMES,
+    );
     assert_eq!(rt;
         checked,
         Checked {
@@ -86,6 +106,46 @@ fn stops_at_a_write_that_fails(rt: HostRuntime) {
             end: Err(RunError::Write),
         }
     );
+}
+
+/// Two lines are accepted, and the others are refused.
+const MIXED: &[u8] = b"2020-01-01\n2020-13-01\n20200101\n2020-W01-1\n";
+
+#[test]
+fn stops_at_a_read_that_fails_with_two_outputs(rt: HostRuntime) -> Result<(), Fail> {
+    let mut reader = BrokenReader { rest: MIXED };
+    let mut written = Vec::new(rt.alloc());
+    let mut reports = Vec::new(rt.alloc());
+    let checked = check(&mut reader, &mut written, &mut reports, &PRINTED);
+    assert_eq!(rt; checked.end, Err(RunError::Read));
+    assert_eq!(rt; checked.tally.lines, 4);
+    assert_eq!(rt; written.as_slice(), b"2020-01-01\n2020-01-01\n".as_slice());
+    assert!(rt; reports.as_slice().starts_with(SECOND_LINE_REPORT));
+    Ok(())
+}
+
+const SECOND_LINE_REPORT: &[u8] =
+    b"f:2:6: the month is 13, and has to be 01 to 12\n2020-13-01\n     ^^\n";
+
+#[test]
+fn stops_at_a_report_that_cannot_be_written(rt: HostRuntime) -> Result<(), Fail> {
+    let mut reader = MIXED;
+    let mut written = Vec::new(rt.alloc());
+    let checked = check(&mut reader, &mut written, &mut ClosedWriter, &PRINTED);
+    assert_eq!(rt; checked.end, Err(RunError::Write));
+    assert_eq!(rt; checked.tally.lines, 2);
+    assert_eq!(rt; checked.tally.refused, 1);
+    Ok(())
+}
+
+#[test]
+fn writes_reports_although_the_texts_cannot_be_written(rt: HostRuntime) -> Result<(), Fail> {
+    let mut reader = MIXED;
+    let mut reports = Vec::new(rt.alloc());
+    let checked = check(&mut reader, &mut ClosedWriter, &mut reports, &PRINTED);
+    assert_eq!(rt; checked.end, Err(RunError::Write));
+    assert!(rt; reports.as_slice().starts_with(SECOND_LINE_REPORT));
+    Ok(())
 }
 
 /// A writer that accepts all bytes, and fails to flush.
@@ -105,7 +165,16 @@ impl Write for UnflushedWriter {
 #[test]
 fn tells_that_the_flush_failed(rt: HostRuntime) {
     let mut reader = TWO_LINES;
-    let checked = check(&mut reader, &mut UnflushedWriter, &DATE_TIMES);
+    let checked = check(
+        &mut reader,
+        &mut UnflushedWriter,
+        &mut ClosedWriter,
+        &DATE_TIMES,
+    );
+    assert_eq!(rt; checked.end, Err(RunError::Write));
+    let mut reader = TWO_LINES;
+    let mut written = Vec::new(rt.alloc());
+    let checked = check(&mut reader, &mut written, &mut UnflushedWriter, &PRINTED);
     assert_eq!(rt; checked.end, Err(RunError::Write));
 }
 

@@ -1,6 +1,6 @@
 //! Tests the reports as objects of JSON. People counted the columns by hand. The names of the reasons are those of `docs/FAULTS.md`.
 
-use super::{DATE_TIMES, check_written};
+use super::{DATE_TIMES, check_both, check_written};
 use ixdtf::parsers::Profile;
 use ixdtf_checks::kind::{InstantKind, Kind};
 use ixdtf_checks::request::{Extent, Field, Format, Request, Task};
@@ -43,7 +43,7 @@ const TEXTS: &[(Kind, &[u8], &str)] = &[
     (Kind::DateTime, b"2020-01-01T12ZZ", "\"column\":15,\"end\":16,\"reason\":\"after_zulu\",\"text\":\"expected `[` or the end after `Z`, found `Z`\"}\n"),
     (Kind::DateTime, b"-000000-01-01", "\"column\":1,\"end\":8,\"reason\":\"minus_zero_year\",\"text\":\"the year is -000000, and year 0 is written 0000\"}\n"),
     (Kind::Time, b"2020-12", "\"column\":1,\"end\":8,\"reason\":\"time_reads_as_year_month\",\"text\":\"`2020-12` may be a year and a month; write `T` before a time\"}\n"),
-    (Kind::Time, b"08:48 z", "\"column\":6,\"end\":7,\"reason\":\"space_before_offset\",\"text\":\"a space stands before the offset\"}\n"),
+    (Kind::Time, b"08:48 z", "\"column\":6,\"end\":7,\"reason\":\"space_before_offset\",\"text\":\"a space stands before the offset\",\"hint\":\"remove the space before the offset\"}\n"),
     (Kind::Duration, b"P1D1Y", "\"column\":4,\"end\":6,\"reason\":\"date_unit_order\",\"text\":\"the unit `Y` stands too late; the order is Y, M, W, D, each once\"}\n"),
     (Kind::Rfc9557, b"1996-12-19T16:39:57-08:00[-08]", "\"column\":26,\"end\":31,\"reason\":\"first_offset_form\",\"text\":\"the time zone's offset has no `:`, and has to be like `+05:30`\"}\n"),
     // RFC 8259, section 7, asks that a quote and a backslash are escaped.
@@ -148,17 +148,12 @@ fn names_a_line_that_is_too_long(rt: HostRuntime) -> Result<(), Fail> {
 }
 
 #[test]
-fn writes_canonical_texts_between_objects(rt: HostRuntime) -> Result<(), Fail> {
+fn writes_canonical_texts_and_objects_apart(rt: HostRuntime) -> Result<(), Fail> {
     let mut request = OBJECTS;
     request.task = Task::Print(Kind::Offset);
-    let written =
-        b"+05:00\n{\"file\":\"f\",\"line\":2,\"column\":2,\"end\":4,\"reason\":\"offset_hour_range\",\"text\":\"the offset's hour is 24, and has to be 00 to 23\"}\n-06:30\n";
-    check_written(
-        &rt,
-        rt.alloc(),
-        &request,
-        b"+05\n+24\n-0630\n",
-        written,
-        (3, 1),
-    )
+    let object =
+        b"{\"file\":\"f\",\"line\":2,\"column\":2,\"end\":4,\"reason\":\"offset_hour_range\",\"text\":\"the offset's hour is 24, and has to be 00 to 23\"}\n";
+    let input = b"+05\n+24\n-0630\n";
+    let written = (b"+05:00\n-06:30\n".as_slice(), object.as_slice());
+    check_both(&rt, rt.alloc(), &request, input, written, (3, 1))
 }

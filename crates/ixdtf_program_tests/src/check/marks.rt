@@ -16,9 +16,9 @@ const PARTS: &[(Kind, &str, &str)] = &[
     (Kind::Duration, "PT1S0.5M", "f:1:5: the unit `M` stands too late; the order is H, M, S, each once\nPT1S0.5M\n    ^^^^\n"),
     (Kind::Duration, "P4294967296Y", "f:1:2: the number before `Y` is too great, and has to be at most 4294967295\nP4294967296Y\n ^^^^^^^^^^\n"),
     (Kind::Duration, "P12345678901234567890123456789D", "f:1:2: the number is too great, and has to be at most 18446744073709551615\nP123456789012345678901234..\n ^^^^^^^^^^^^^^^^^^^^^^^^\n"),
-    (Kind::DateTime, "2024-03-02T08:48Z[!knort=blargel]", "f:1:18: the annotation's key is not known; without `!`, the annotation would be ignored\n2024-03-02T08:48Z[!knort=blargel]\n                 ^^^^^^^^^^^^^^^^\n"),
+    (Kind::DateTime, "2024-03-02T08:48Z[!knort=blargel]", "f:1:18: the annotation's key is not known; without `!`, the annotation would be ignored\n2024-03-02T08:48Z[!knort=blargel]\n                 ^^^^^^^^^^^^^^^^\nhint: remove `!` if the annotation may be ignored\n"),
     (Kind::DateTime, "2024-03-02[u-ca=hebrew][!u-ca=iso8601]", "f:1:24: a later calendar differs from the first, and one is critical (`!`)\n2024-03-02[u-ca=hebrew][!u-ca=iso8601]\n                       ^^^^^^^^^^^^^^^\n"),
-    (Kind::DateTime, "2024-03-02[America/New_York][u-ca=hebrew][u-co=standard][!knort=blargel]", "f:1:57: the annotation's key is not known; without `!`, the annotation would be ignored\n..02[America/New_York][u-ca=hebrew][u-co=standard][!knort=blargel]\n                                                  ^^^^^^^^^^^^^^^^\n"),
+    (Kind::DateTime, "2024-03-02[America/New_York][u-ca=hebrew][u-co=standard][!knort=blargel]", "f:1:57: the annotation's key is not known; without `!`, the annotation would be ignored\n..02[America/New_York][u-ca=hebrew][u-co=standard][!knort=blargel]\n                                                  ^^^^^^^^^^^^^^^^\nhint: remove `!` if the annotation may be ignored\n"),
     (Kind::Rfc9557, "1996-12-19T16:39:57-08:00[-08]", "f:1:26: the time zone's offset has no `:`, and has to be like `+05:30`\n1996-12-19T16:39:57-08:00[-08]\n                         ^^^^^\n"),
 ];
 
@@ -37,8 +37,8 @@ fn marks_each_byte_of_the_part_that_is_wrong(rt: HostRuntime) -> Result<(), Fail
 /// character counts as wrong, so there is one mark.
 #[rattlefmt::skip]
 const CHARACTERS: &[(&str, &str)] = &[
-    ("2024\u{2212}03\u{2212}02", "f:1:5: expected `-` or a digit of the month, found U+2212 (minus sign)\n2024\u{2212}03\u{2212}02\n    ^\n"),
-    ("2024-03-02T08:48\u{2013}08:50", "f:1:17: expected `:`, an offset, `[` or the end after the minute, found U+2013 (en dash)\n2024-03-02T08:48\u{2013}08:50\n                ^\n"),
+    ("2024\u{2212}03\u{2212}02", "f:1:5: expected `-` or a digit of the month, found U+2212 (minus sign)\n2024\u{2212}03\u{2212}02\n    ^\nhint: write `-` instead\n"),
+    ("2024-03-02T08:48\u{2013}08:50", "f:1:17: expected `:`, an offset, `[` or the end after the minute, found U+2013 (en dash)\n2024-03-02T08:48\u{2013}08:50\n                ^\nhint: write `-` instead\n"),
     ("2024-03-02\u{a0}08:48", "f:1:11: expected `T`, a space, `[` or the end after the date, found U+00A0 (no-break space)\n2024-03-02\u{a0}08:48\n          ^\n"),
     ("2024-03-02T08:48\u{e9}", "f:1:17: expected `:`, an offset, `[` or the end after the minute, found U+00E9\n2024-03-02T08:48\u{e9}\n                ^\n"),
     ("2024-03-02T08`", "f:1:14: expected `:`, a digit, an offset, `[` or the end after the hour, found a backtick\n2024-03-02T08`\n             ^\n"),

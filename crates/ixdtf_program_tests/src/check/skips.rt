@@ -19,19 +19,19 @@ const LINES: &[u8] = b"when\n# a comment\n\n \t \r\n2020-01-01\n2020-13-01\n #\n
 const SKIPPED: &[(Skips, &str, u64)] = &[
     (Skips { header: true, blank: true, comment: Some(b'#') },
         "f:6:6: the month is 13, and has to be 01 to 12\n2020-13-01\n     ^^\n\
-f:7:1: expected a year of four digits, found a space\n #\n^\n", 2),
+f:7:1: expected a year of four digits, found a space\n #\n^\nhint: remove the white space at the start\n", 2),
     (Skips { header: true, blank: true, comment: Some(b' ') },
         "f:2:1: expected a year of four digits, found `#`\n# a comment\n^\n\
 f:6:6: the month is 13, and has to be 01 to 12\n2020-13-01\n     ^^\n", 2),
     (Skips { header: false, blank: true, comment: Some(b'#') },
-        "f:1:1: expected a year of four digits, found `w`\nwhen\n^\n\
+        "f:1:1: expected a year of four digits, found `w`\nwhen\n^\nhint: write the year first, with four digits, then `-` and the month\n\
 f:6:6: the month is 13, and has to be 01 to 12\n2020-13-01\n     ^^\n\
-f:7:1: expected a year of four digits, found a space\n #\n^\n", 3),
+f:7:1: expected a year of four digits, found a space\n #\n^\nhint: remove the white space at the start\n", 3),
     (Skips { header: true, blank: false, comment: Some(b'#') },
         "f:3:1: the text is empty; expected a year of four digits\n\n^\n\
-f:4:1: expected a year of four digits, found a space\n . \n^\n\
+f:4:1: expected a year of four digits, found a space\n . \n^\nhint: remove the white space at the start\n\
 f:6:6: the month is 13, and has to be 01 to 12\n2020-13-01\n     ^^\n\
-f:7:1: expected a year of four digits, found a space\n #\n^\n", 4),
+f:7:1: expected a year of four digits, found a space\n #\n^\nhint: remove the white space at the start\n", 4),
 ];
 
 #[test]

@@ -1,6 +1,6 @@
 //! Tests with examples of lines and their reports.
 
-use super::{DATE_TIMES, check_written};
+use super::{DATE_TIMES, check_both, check_written};
 use ixdtf::parsers::Profile;
 use ixdtf_buffers::place::pass_many;
 use ixdtf_checks::kind::Kind;
@@ -12,7 +12,7 @@ use std::test::Fail;
 const MIXED: &[u8] = b"2024-03-02T08:48:00Z\n2020-W01-1\n\n2021-02-29\r\n2020-01-01\r\n2020-13-01";
 
 const MIXED_REPORTS: &[u8] = b"f:2:6: expected a digit of the month, which has two, found `W`\n\
-2020-W01-1\n     ^\n\
+2020-W01-1\n     ^\nhint: a week is not read; write the month instead\n\
 f:3:1: the text is empty; expected a year of four digits\n\n^\n\
 f:4:9: the day is 29, and has to be 01 to 28\n2021-02-29\n        ^^\n\
 f:6:6: the month is 13, and has to be 01 to 12\n2020-13-01\n     ^^\n";
@@ -38,7 +38,7 @@ fn reports_no_more_lines_than_asked(rt: HostRuntime) -> Result<(), Fail> {
     check_written(&rt, rt.alloc(), &request, MIXED, MIXED_REPORTS, (6, 4))?;
     request.most_reports = 1;
     let first =
-        b"f:2:6: expected a digit of the month, which has two, found `W`\n2020-W01-1\n     ^\n";
+        b"f:2:6: expected a digit of the month, which has two, found `W`\n2020-W01-1\n     ^\nhint: a week is not read; write the month instead\n";
     check_written(&rt, rt.alloc(), &request, MIXED, first, (6, 4))?;
     request.most_reports = 0;
     check_written(&rt, rt.alloc(), &request, MIXED, b"", (6, 4))
@@ -114,7 +114,7 @@ fn reads_a_field(rt: HostRuntime) -> Result<(), Fail> {
         rt.alloc(),
         &request,
         b"a,2020-01-01,b\nab,2020-W01-1\nabc\n,2020-01-01\r\n",
-        b"f:2:9: expected a digit of the month, which has two, found `W`\n2020-W01-1\n     ^\n\
+        b"f:2:9: expected a digit of the month, which has two, found `W`\n2020-W01-1\n     ^\nhint: a week is not read; write the month instead\n\
 f:3:4: no such field\n",
         (4, 2),
     )
@@ -153,7 +153,7 @@ fn reads_two_fields(rt: HostRuntime) -> Result<(), Fail> {
         &request,
         b"a 2020-01-01 12:00:00 b\nab 2020-01-01 25:00:00\na 2020-01-01\nabc\na 2020-01-01  12:00\n",
         b"f:2:15: the hour is 25, and has to be 00 to 23\n2020-01-01 25:00:00\n           ^^\n\
-f:3:13: no such field\nf:4:4: no such field\nf:5:14: the text ends before the hour; expected two digits\n2020-01-01 \n           ^\n",
+f:3:13: no such field\nf:4:4: no such field\nf:5:14: the text ends before the hour; expected two digits\n2020-01-01 \n           ^\nhint: remove the white space at the end\n",
         (5, 4),
     )
 }
@@ -278,27 +278,20 @@ fn shows_characters_outside_ascii(rt: HostRuntime) -> Result<(), Fail> {
 }
 
 #[test]
-fn writes_canonical_texts(rt: HostRuntime) -> Result<(), Fail> {
+fn writes_canonical_texts_and_reports_apart(rt: HostRuntime) -> Result<(), Fail> {
     let mut request = DATE_TIMES;
     request.task = Task::Print(Kind::DateTime);
-    check_written(
-        &rt,
-        rt.alloc(),
-        &request,
-        b"20200101T00+00[+00]\n2020-13-01\n",
-        b"2020-01-01T00:00:00+00:00[+00:00]\n\
-f:2:6: the month is 13, and has to be 01 to 12\n2020-13-01\n     ^^\n",
-        (2, 1),
-    )?;
+    let input = b"2020-13-01\n20200101T00+00[+00]\n2020-01-00\n";
+    let canonical = b"2020-01-01T00:00:00+00:00[+00:00]\n";
+    let reports = b"f:1:6: the month is 13, and has to be 01 to 12\n2020-13-01\n     ^^\n\
+f:3:9: the day is 00, and has to be 01 to 31\n2020-01-00\n        ^^\n";
+    let alloc = rt.alloc();
+    check_both(&rt, alloc, &request, input, (canonical, reports), (3, 2))?;
+    request.most_reports = 1;
+    let first = &reports[..66];
+    check_both(&rt, alloc, &request, input, (canonical, first), (3, 2))?;
     request.is_quiet = true;
-    check_written(
-        &rt,
-        rt.alloc(),
-        &request,
-        b"20200101T00+00[+00]\n2020-13-01\n",
-        b"2020-01-01T00:00:00+00:00[+00:00]\n",
-        (2, 1),
-    )
+    check_written(&rt, alloc, &request, input, canonical, (3, 2))
 }
 
 /// A text of each kind, and its canonical text.
@@ -340,12 +333,12 @@ const SPACED: &[(Kind, &str, &str)] = &[
     (
         Kind::DateTime,
         "2024-03-02 08:48 -0500",
-        "f:1:17: a space stands before the offset\n2024-03-02 08:48 -0500\n                ^\n",
+        "f:1:17: a space stands before the offset\n2024-03-02 08:48 -0500\n                ^\nhint: remove the space before the offset\n",
     ),
     (
         Kind::Time,
         "08:48 z",
-        "f:1:6: a space stands before the offset\n08:48 z\n     ^\n",
+        "f:1:6: a space stands before the offset\n08:48 z\n     ^\nhint: remove the space before the offset\n",
     ),
     (
         Kind::Time,
@@ -367,7 +360,7 @@ const SPACED: &[(Kind, &str, &str)] = &[
         Kind::DateTime,
         "2024-03-02T08:48Z[!a=b] Z",
         "f:1:18: the annotation's key is not known; without `!`, the annotation would be ignored\n\
-2024-03-02T08:48Z[!a=b] Z\n                 ^^^^^^\n",
+2024-03-02T08:48Z[!a=b] Z\n                 ^^^^^^\nhint: remove `!` if the annotation may be ignored\n",
     ),
 ];
 

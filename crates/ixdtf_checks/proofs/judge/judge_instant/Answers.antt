@@ -1,8 +1,8 @@
 -- Proves the verdict on a refused text.
 use Rattle.ixdtf_checks.proofs.judge.judge_instant.Goals as goal
-use Rattle.std.proofs.Common.{refl, inr, sym, subst}
-use Rattle.ixdtf_checks.specs.{Kinds.instant_reader_of, Verdicts.ShowsPart}
-use Rattle.ixdtf_checks.proofs.VerdictLemmas.{at_within, order_refused, shows_part}
+use Rattle.std.proofs.Common.{refl, inr}
+use Rattle.ixdtf_checks.specs.Kinds.{instant_reader_of}
+use Rattle.ixdtf_checks.proofs.VerdictLemmas.{at_within, order_refused}
 
 pub refuse-requires-clause-within : goal.refuse-requires-clause-within
 refuse-requires-clause-within c =
@@ -18,6 +18,4 @@ returns-in-Ok-Some c =
 
 pub returns-in-Ok-None : goal.returns-in-Ok-None
 returns-in-Ok-None c = λ printed.
-    let bytes = c.args.part.text.now in
-    let shows = subst (λ lines. ShowsPart bytes (record { begin = 0; end = 0 }) lines) (sym c.first.ensures) (shows_part bytes (record { begin = 0; end = 0 })) in
-    inr (rw c.in-Ok-None.field-0-is at c.in-Ok-None.ensures.ok, (rw c.words.ensures refl, shows))
+    inr (rw c.in-Ok-None.field-0-is at c.in-Ok-None.ensures.ok, rw (c.whole_text.ensures.column, c.whole_text.ensures.text) refl)

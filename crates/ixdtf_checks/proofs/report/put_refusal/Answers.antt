@@ -1,36 +1,16 @@
 -- Proves that the name and the other bytes of the report are written.
 use Rattle.ixdtf_checks.proofs.report.put_refusal.Goals as goal
-use Rattle.std.proofs.Common.{◌∷◌, append_assoc, ap, ◌∙◌, refl, take}
+use Rattle.std.proofs.Common.{refl}
 use Rattle.ixdtf_grammar.specs.Messages.{message_text}
-use Rattle.ixdtf_buffers.proofs.{AddingLemmas.adds_then, OutputLemmas.{Puts-after, Puts-exit}}
-use Rattle.ixdtf_buffers.specs.Lines.{newline}
-use Rattle.ixdtf_checks.specs.{Reports.line_and_column, Seen.lines_in}
+use Rattle.ixdtf_checks.specs.{Seen.{lines_behind, seen_refusal}, Texts.text_of}
 
-pub returns-in_err-put : goal.returns-in_err-put
-returns-in_err-put g c = Puts-exit _ (rw c.as_bytes.ensures.value at c.in_err-put.ensures) c.from_residual.ensures.1
+pub returns-then-bytes-gt-MOST_NAME : goal.returns-then-bytes-gt-MOST_NAME
+returns-then-bytes-gt-MOST_NAME g c = rw c.as_bytes-bytes.ensures.value at c.put_long_named.ensures
 
-pub returns-in_err-put-in-None : goal.returns-in_err-put-in-None
-returns-in_err-put-in-None g c =
-    let placed = ap (λ room. take c.add_place-place.result room) (c.in-None.ensures.none refl) ∙ c.add_place-place.ensures.text.is in
-    Puts-after (rw c.as_bytes.ensures.value at c.in_ok-put.ensures)
-    (Puts-exit _ (rw placed at c.in_err-put-in-None.ensures) c.from_residual-in_err-put-in-None.ensures.1)
-
-pub returns-in_err-put_message-in-None : goal.returns-in_err-put_message-in-None
-returns-in_err-put_message-in-None g c =
-    let placed = ap (λ room. take c.add_place-place.result room) (c.in-None.ensures.none refl) ∙ c.add_place-place.ensures.text.is in
-    Puts-after (rw c.as_bytes.ensures.value at c.in_ok-put.ensures)
-    (Puts-after (rw placed at c.in_ok-put-in-None.ensures)
-    (Puts-exit _ c.in_err-put_message-in-None.ensures c.from_residual-in_err-put_message-in-None.ensures.1))
-
-pub returns-in-Some : goal.returns-in-Some
-returns-in-Some g c =
-    let refusal = c.args.refusal.now in
-    let made = adds_then c.add_place-place.ensures.text c.in-Some.ensures.text in
-    let whole = append_assoc (line_and_column c.args.number refusal.column) (message_text refusal.message) (newline ∷ lines_in refusal.marked) in
-    Puts-after (rw c.as_bytes.ensures.value at c.in_ok-put.ensures) (rw (made.is, whole) at c.put_lines.ensures)
-
-pub returns-in_ok-put_message-in-None : goal.returns-in_ok-put_message-in-None
-returns-in_ok-put_message-in-None g c =
-    let placed = ap (λ room. take c.add_place-place.result room) (c.in-None.ensures.none refl) ∙ c.add_place-place.ensures.text.is in
-    Puts-after (rw c.as_bytes.ensures.value at c.in_ok-put.ensures)
-    (Puts-after (rw placed at c.in_ok-put-in-None.ensures) (Puts-after c.in_ok-put_message-in-None.ensures c.put_lines-in-None.ensures))
+pub returns : goal.returns
+returns g c =
+    let refusal = c.refusal_of-refusal.result in (
+      text_of c.args.name.now c.args.number refusal.column (message_text refusal.message) (lines_behind refusal.marked refusal.hint),
+      (seen_refusal refusal, c.refusal_of-refusal.ensures, refl),
+      rw (c.add_bytes-end.ensures.text.is, c.as_bytes-bytes.ensures.value) at c.put_after.ensures,
+    )

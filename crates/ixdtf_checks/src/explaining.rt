@@ -1,0 +1,166 @@
+//! Makes what a report says about a refused line.
+ghost use Rattle.std.specs.Prelude.{◌≡◌, [], Some};
+ghost use Rattle.ixdtf_grammar.specs.Messages.{message_text};
+ghost use Rattle.ixdtf_checks.specs.Csv.{quoting_message, quoting_name};
+ghost use Rattle.ixdtf_checks.specs.Parts.{seen_part};
+ghost use Rattle.ixdtf_checks.specs.Seen.{lines_at, lines_in, seen_cause, seen_refusal, why_name};
+ghost use Rattle.ixdtf_checks.specs.Spaced.{is_spaced};
+ghost use Rattle.ixdtf_checks.specs.Verdicts.{Explains, Tells, refusal_at};
+
+use crate::cause::{Cause, Unread, WholeText};
+use crate::csv::Quoting;
+use crate::refusal::{Marked, Refusal, Why};
+use crate::verdict::LINE_LIMIT;
+use ixdtf::{Message, Shown, WrongPart};
+
+/// Returns what a report says about a line that is refused for this cause.
+///
+/// The function is inlined, so that a report as a text does not make what only an object of JSON says.
+#[inline(always)]
+pub fn refusal_of(cause: Cause<'_>) -> Refusal<'_>
+    ensures { Tells (seen_cause cause.entry) (seen_refusal result) }
+{
+    match cause {
+        Cause::TooLong => refused_whole(LINE_LIMIT + 1, Why::LineTooLong, "line too long"),
+        Cause::NoField(column) => refused_whole(column, Why::NoSuchField, "no such field"),
+        Cause::Broken(quoting, column) => {
+            refused_whole(column, Why::Quotes(quoting), message_of_quoting(quoting))
+        }
+        Cause::Untimed(text) => refused_text(text, Why::NoInstant, "no instant"),
+        Cause::Early(_, text) => refused_text(text, Why::Earlier, "earlier than the line before"),
+        Cause::Unread(unread) => refused_by_reader(unread),
+    }
+}
+
+/// Returns what a report says about a line that has no text.
+fn refused_whole<'a>(column: usize, why: Why, message: &'static str) -> Refusal<'a>
+    ensures { seen_refusal result ≡ refusal_at column (why_name why) message.now [] }
+{
+    Refusal {
+        column,
+        end: column,
+        why,
+        message: words(message),
+        marked: None,
+        hint: None,
+    }
+}
+
+/// Returns what a report says about a text that is refused as a whole.
+fn refused_text<'a>(text: WholeText<'a>, why: Why, message: &'static str) -> Refusal<'a>
+    ensures { seen_refusal result ≡ refusal_at text.entry.column (why_name why) message.now (lines_at 0 0 text.entry.text.now) }
+{
+    Refusal {
+        column: text.column,
+        end: text.column,
+        why,
+        message: words(message),
+        marked: Some(first_marked(text.text)),
+        hint: None,
+    }
+}
+
+/// Returns what a report says about a text that a reader refuses. If texts of this kind can have an offset, and the part that is wrong
+/// begins with a space before an offset, this space is the reason, and the message and the hint are about it. Otherwise the reason, the
+/// message and the hint are those of the error.
+#[inline(always)]
+fn refused_by_reader(unread: Unread<'_>) -> Refusal<'_>
+    ensures { Explains unread.entry.has_offset (seen_part unread.entry.part) unread.entry.error (seen_refusal result) }
+{
+    let part = unread.part;
+    let wrong = unread.error.part_in(part.text);
+    let column = part.start + part.width_of(wrong.begin) + 1;
+    let end = part.start + part.width_of(wrong.end) + 1;
+    let marked = Some(Marked {
+        text: part.text,
+        part: wrong,
+    });
+    if unread.has_offset && is_spaced(&part.text[wrong.begin..]) {
+        Refusal {
+            column,
+            end,
+            why: Why::SpaceBeforeOffset,
+            message: words("a space stands before the offset"),
+            marked,
+            hint: Some(words("remove the space before the offset")),
+        }
+    } else {
+        Refusal {
+            column,
+            end,
+            why: Why::Unread(unread.error.reason),
+            message: unread.error.message_in(part.text),
+            marked,
+            hint: unread.error.hint_in(part.text),
+        }
+    }
+}
+
+/// Returns whether the bytes begin with a space and the beginning of an offset: `Z`, `z`, or a sign and a digit.
+fn is_spaced(bytes: &[u8]) -> bool
+    ensures { result ≡ is_spaced bytes.now }
+{
+    match bytes {
+        [b' ', b'Z' | b'z', ..] => true,
+        [b' ', b'+' | b'-', digit, ..] => digit.is_ascii_digit(),
+        _ => false,
+    }
+}
+
+/// Returns a message that has only these words.
+fn words(words: &'static str) -> Message<'static>
+    ensures { message_text result ≡ words.now }
+{
+    Message {
+        before: words,
+        shown: Shown::Nothing,
+        after: "",
+    }
+}
+
+/// Marks the first byte of a text, which is refused as a whole.
+fn first_marked(text: &[u8]) -> Marked<'_>
+    ensures { lines_in (Some result) ≡ lines_at 0 0 text.now }
+{
+    Marked {
+        text,
+        part: WrongPart { begin: 0, end: 0 },
+    }
+}
+
+/// Returns the message about a line that is no record of RFC 4180.
+fn message_of_quoting(quoting: Quoting) -> &'static str
+    ensures { result.now ≡ quoting_message quoting }
+{
+    match quoting {
+        Quoting::NotClosed => "a quote is not closed in this line",
+        Quoting::TextAfter => "text after a closing quote",
+        Quoting::Stray => "a quote in a field without quotes",
+    }
+}
+
+/// Returns the name of the reason: that of `Reason::name`, or a name of this crate.
+pub fn name_of(why: Why) -> &'static str
+    ensures { result.now ≡ why_name why }
+{
+    match why {
+        Why::LineTooLong => "line_too_long",
+        Why::NoSuchField => "no_such_field",
+        Why::Quotes(quoting) => name_of_quoting(quoting),
+        Why::NoInstant => "no_instant",
+        Why::Earlier => "earlier",
+        Why::SpaceBeforeOffset => "space_before_offset",
+        Why::Unread(reason) => reason.name(),
+    }
+}
+
+/// Returns the name of the reason why a line is no record of RFC 4180.
+fn name_of_quoting(quoting: Quoting) -> &'static str
+    ensures { result.now ≡ quoting_name quoting }
+{
+    match quoting {
+        Quoting::NotClosed => "quote_not_closed",
+        Quoting::TextAfter => "text_after_quote",
+        Quoting::Stray => "stray_quote",
+    }
+}

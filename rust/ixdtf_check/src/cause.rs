@@ -1,0 +1,48 @@
+// Made by tools/to_rust.py of crates/ixdtf_checks/src/cause.rt. Do not edit.
+
+//! Why a line is refused.
+//!
+//! A verdict has the cause alone. What a report says about the line is made from the cause when the report is written. So little is
+//! copied from one function to another, and nothing is made for a report that is not written.
+
+use crate::csv::Quoting;
+use crate::part::Part;
+use ixdtf::{Instant, LocatedError};
+
+/// Why a line is refused.
+#[derive(Clone, Copy)]
+pub enum Cause<'a> {
+    /// The line is longer than `LINE_LIMIT`.
+    TooLong,
+    /// The line has too few fields. The number is the column after its last byte.
+    NoField(usize),
+    /// The line is no record of RFC 4180. The number is the column of the byte that is wrong.
+    Broken(Quoting, usize),
+    /// The text names no instant.
+    Untimed(WholeText<'a>),
+    /// The text names this instant, which is before the previous instant. The previous instant is that of the nearest preceding
+    /// line whose text names an instant.
+    Early(Instant, WholeText<'a>),
+    /// A reader refuses the text.
+    Unread(Unread<'a>),
+}
+
+/// A text that is refused as a whole.
+#[derive(Clone, Copy)]
+pub struct WholeText<'a> {
+    /// The column of the first byte of the text.
+    pub column: usize,
+    /// The text. It can be invalid UTF-8.
+    pub text: &'a [u8],
+}
+
+/// A text that a reader refuses.
+#[derive(Clone, Copy)]
+pub struct Unread<'a> {
+    /// Whether texts of this kind can have an offset after their time.
+    pub has_offset: bool,
+    /// The error that the reader returned.
+    pub error: LocatedError,
+    /// The part of the line that is the text.
+    pub part: Part<'a>,
+}
