@@ -15,8 +15,9 @@
  * whose names begin with ixdtf16_. A function reads no memory before or after the text, and does
  * not write to the text. A text need not be NUL-terminated. A NUL within the length counts as a
  * code unit. A text need not be valid UTF-8 or UTF-16. If the length is 0, the pointer may be NULL.
- * A text of 16-bit code units must have the alignment of uint16_t, and so must an array to which a
- * function writes such a text. A text must not have more than PTRDIFF_MAX bytes.
+ * A text of 16-bit code units must have the alignment of uint16_t. An array to which a function
+ * writes such a text must have this alignment too. A text must not have more than PTRDIFF_MAX
+ * bytes.
  *
  * RESULTS. A reader is a function that reads a text. A reader returns 0 (IXDTF_OK) if it accepts
  * the text. Otherwise it returns the number of the error, from 1 to 46. If a program ignores the
@@ -28,7 +29,8 @@
  * month and a day, `year` is 0.
  * If a reader returns 0, it also writes 0 to `place`, and a slice of length 0 to `location`.
  * If a reader returns an error, the record is unchanged, except for `location` and `place`. So its
- * other fields have the values from before the call. They can be about an earlier text.
+ * other fields have the values from before the call. They can be about an earlier text. The two
+ * fields that change have these values:
  * - `location` says what was being parsed, such as "digit", if the error is IXDTF_ABRUPT_END. After
  *   every other error, `location` has length 0. IXDTF_ABRUPT_END does not mean that the text ends
  *   too early: the duration PT1x has this error too, and many texts that end too early have other
@@ -51,16 +53,16 @@
  * IXDTF_MINUTES. If `fraction_digits` is 0, there is no fraction, and the value of `fraction` does
  * not matter.
  * An array that a function writes is passed as a pointer and a capacity. The capacity is the number
- * of elements of the array. Its parameter has the name `room`.
+ * of elements of the array. The parameter for the capacity has the name `room`.
  * The memory that a function writes must not overlap anything else that is passed to the function.
  * If a length or a capacity is 0, the pointer that belongs to it may be NULL, also in a struct. No
  * other pointer that is passed may be NULL.
  *
  * SLICES. A slice is a pointer and a length. A name or a calendar that a reader writes into a
- * record is a slice of the text that was read. So are the key and the value of an annotation that a
- * reader lists. There is one exception: some readers let your program replace annotations (see
- * ixdtf_reply). Then the calendar is the slice that your program passed as the value of an
- * annotation.
+ * record is a slice of the text that was read. The key and the value of an annotation that a reader
+ * lists are slices of this text too. There is one exception: your program can replace the
+ * annotations that a reader lists (see ixdtf_reply). Then the calendar is the slice that your
+ * program passed as the value of an annotation.
  * A slice is not NUL-terminated. It is valid as long as the bytes to which it points exist and are
  * unchanged. The library keeps no pointer between calls. A location and the text of an error are
  * valid as long as the program runs. If a function writes a slice, its pointer is never NULL, even
@@ -96,7 +98,7 @@ extern "C" {
 /* The version of the interface that this header describes. */
 #define IXDTF_INTERFACE_VERSION 2
 /* The revision: how many times functions or numbers were added within this version. */
-#define IXDTF_INTERFACE_REVISION 5
+#define IXDTF_INTERFACE_REVISION 6
 
 /* Marks a function whose result the caller must test. If the caller ignores the result, a
  * compiler such as GCC or Clang warns. */
@@ -163,17 +165,18 @@ enum {
     IXDTF_INVALID_MONTH_DAY = 46
 };
 
-/* The numbers that printers, ixdtf_instant, ixdtf_duration_fraction, ixdtf_explain and
- * ixdtf_describe return if they fail. No reader returns them. */
+/* The numbers that printers, ixdtf_instant, ixdtf_duration_fraction, ixdtf_explain, ixdtf_describe
+ * and ixdtf_hint return if they fail. No reader returns them. */
 enum {
-    /* the value has no text: the reader that belongs to the printer never writes this value. For
-     * ixdtf_print_zone, `is_critical` does not matter: it prints a critical zone too. For
-     * ixdtf_describe: `reason` is not the number of a reason, or the report would be too long */
+    /* the value cannot be printed, because the reader that belongs to the printer never writes it.
+     * For ixdtf_print, this reader is ixdtf_parse. A critical time zone is an exception: it can be
+     * printed, although ixdtf_parse_identifier never writes a critical time zone. ixdtf_describe
+     * and ixdtf_hint return this number if `reason` is not the number of a reason */
     IXDTF_NOT_PRINTABLE = 101,
     /* the array is too short; the length of the text is in `count` */
     IXDTF_TOO_SHORT = 102,
-    /* the record has no date, or no time, or neither an offset nor Z; or its month, a fraction or
-     * the `form` of its offset is not valid: ixdtf_instant has the details */
+    /* the record has no date, no time, or neither an offset nor Z. This is also the number if the
+     * month, a fraction or the `form` of the offset is not valid: ixdtf_instant has the details */
     IXDTF_NO_INSTANT = 103,
     /* the fraction is not a whole number of nanoseconds, or it has more than 18 digits */
     IXDTF_NOT_EXACT = 104,
@@ -181,8 +184,8 @@ enum {
     IXDTF_NO_READER = 105
 };
 
-/* The readers, by the numbers that ixdtf_explain accepts. The reader ixdtf_parse_time_strict, for
- * example, has the number IXDTF_READER_PARSE_TIME_STRICT. So does ixdtf16_parse_time_strict. */
+/* The numbers of the readers, which ixdtf_explain accepts. For example, ixdtf_parse_time_strict and
+ * ixdtf16_parse_time_strict have the number IXDTF_READER_PARSE_TIME_STRICT. */
 enum {
     IXDTF_READER_PARSE = 1,
     IXDTF_READER_PARSE_YEAR_MONTH = 2,
@@ -523,8 +526,9 @@ IXDTF_CHECKED_ uint32_t ixdtf_parse_rfc3339(const uint8_t *text, size_t length, 
  * date-time of RFC 3339. A zone and annotations may follow in brackets. This reader accepts fewer
  * zones than ixdtf_parse. If the zone is a name, a / separates the parts of the name. Each part
  * must begin with a letter, "." or "_", as RFC 9557 says. No part may be "." or "..". If the zone
- * is an offset, it must have the form +05:30. An annotation that ixdtf_parse refuses is refused
- * here too. ixdtf_parse accepts each text that this reader accepts, and writes the same record.
+ * is an offset, it must have the form +05:30. This reader also refuses each annotation that
+ * ixdtf_parse refuses. ixdtf_parse accepts each text that this reader accepts, and writes the same
+ * record.
  * If this reader returns 0, the date, the time and the offset are present. */
 IXDTF_CHECKED_ uint32_t ixdtf_parse_rfc9557(const uint8_t *text, size_t length, ixdtf_record *out);
 /* Reads an offset, such as +05:30, into the field `offset`. The text Z is refused. If the
@@ -556,8 +560,8 @@ IXDTF_CHECKED_ uint32_t ixdtf_parse_time_strict(const uint8_t *text, size_t leng
 IXDTF_CHECKED_ uint32_t ixdtf_parse_duration_strict(const uint8_t *text, size_t length,
     ixdtf_duration *out);
 
-/* Readers that list annotations. If you leave _with_annotations out of the name of such a reader,
- * you get the name of a reader above. A reader that lists annotations reads like that reader above,
+/* Readers that list annotations. For each of them, there is a reader above whose name is the same,
+ * but without _with_annotations. The reader that lists annotations reads as the reader above does,
  * with three differences:
  * - It accepts every annotation that has a key and a value, also a critical one.
  * - It writes no calendar into the record: if it returns 0, has_calendar is false.
@@ -567,9 +571,9 @@ IXDTF_CHECKED_ uint32_t ixdtf_parse_duration_strict(const uint8_t *text, size_t 
  * The reader writes the annotations to the array `annotations`, in order. `room` is the capacity of
  * the array, in annotations. If `count` is greater than `room`, the array has only the first `room`
  * annotations. If `count` is less than `room`, the elements after the annotations are unchanged. So
- * a loop over the array must end at the smaller of the two numbers. If `count` is greater than
- * `room`, call the reader again with an array of `count` annotations. A text of n code units has at
- * most n / 5 annotations.
+ * a loop over the array must end at `count` or at `room`, whichever is smaller. If `count` is
+ * greater than `room`, call the reader again with an array of `count` annotations. A text of n code
+ * units has at most n / 5 annotations.
  * docs/C.md shows how to use the list, in "Handlers". */
 IXDTF_CHECKED_ uint32_t ixdtf_parse_with_annotations(const uint8_t *text, size_t length,
     ixdtf_annotation *annotations, size_t room, size_t *count, ixdtf_record *out);
@@ -628,9 +632,9 @@ IXDTF_CHECKED_ uint32_t ixdtf_print(const ixdtf_record *record, uint8_t *out, si
 /* Writes the canonical text of a duration, such as -P1Y2DT3H0.5M, to the array `out`, in ASCII. The
  * arguments and the results have the same meaning as in ixdtf_print. ixdtf_parse_duration reads the
  * text as the same duration. So if two durations differ in a value that matters, they have
- * different canonical texts. The text begins with - if the duration is negative. It has each
- * duration unit that is not 0. If the duration has a date, and all numbers of the date are 0, the
- * text has 0D.
+ * different canonical texts. The text begins with - if the duration is negative. The text has each
+ * duration unit whose number is not 0. If the duration has a date, and all numbers of the date are
+ * 0, the text has 0D.
  * If the duration has a time, the text has the last duration unit of the time, even if its number
  * is 0, because PT0H and PT0S are different durations. The function returns IXDTF_NOT_PRINTABLE in
  * these cases:
@@ -645,7 +649,7 @@ IXDTF_CHECKED_ uint32_t ixdtf_print_duration(const ixdtf_duration *duration, uin
 
 /* Write a canonical text to the array `out`, in ASCII. ixdtf_print_offset writes the text of an
  * offset, such as -05:00 or +05:30:10.5. ixdtf_print_zone writes the text of a time zone, such as
- * Europe/Berlin. The text of a zone has neither the brackets of the zone nor its !.
+ * Europe/Berlin. The text of a zone has no brackets and no "!".
  * The arguments and the results have the same meaning as in ixdtf_print.
  * ixdtf_parse_offset reads the text of an offset as the same offset. ixdtf_parse_identifier reads
  * the text of a zone as the same zone, except that the zone is not critical.
@@ -676,9 +680,9 @@ IXDTF_CHECKED_ uint32_t ixdtf_print_zone(const ixdtf_zone *zone, uint8_t *out, s
  * and must call its printer. For example, the record of the text 11-01 is printed as 11-01 by
  * ixdtf_print_month_day, as 0000-11 by ixdtf_print_year_month, and as 0000-11-01 by ixdtf_print.
  * The functions return IXDTF_NOT_PRINTABLE if there is no text for which the reader writes this
- * record. For example, a part is missing, a part is present that must not be present (such as a
- * date in the record of a time), a `form` has a value that is not named above, or a number is out
- * of range.
+ * record. For example, the record lacks a part, or has a part that it must not have (such as a date
+ * in the record of a time). Two more examples: a `form` has a value that is not named above, or a
+ * number is out of range.
  * If the reader wrote the record for a text of n bytes, a capacity of n + 12 bytes is always enough
  * for a time, and a capacity of n + 4 bytes for the other two. */
 IXDTF_CHECKED_ uint32_t ixdtf_print_time(const ixdtf_record *record, uint8_t *out, size_t room,
@@ -689,8 +693,8 @@ IXDTF_CHECKED_ uint32_t ixdtf_print_month_day(const ixdtf_record *record, uint8_
     size_t *count);
 
 /* The readers and ixdtf_reply for 16-bit text. No reader of 16-bit text accepts a code unit outside
- * 1 to 126. If a reader comes to such a code unit, the error is IXDTF_NON_ASCII_CODE_POINT.
- * Otherwise these functions do what the functions for 8-bit text do. */
+ * 1 to 126. If a reader comes to such a code unit, the error is IXDTF_NON_ASCII_CODE_POINT. Apart
+ * from this, these functions do what the functions for 8-bit text do. */
 IXDTF_CHECKED_ uint32_t ixdtf16_parse(const uint16_t *text, size_t length, ixdtf16_record *out);
 IXDTF_CHECKED_ uint32_t ixdtf16_parse_year_month(const uint16_t *text, size_t length,
     ixdtf16_record *out);
@@ -740,8 +744,8 @@ IXDTF_CHECKED_ uint32_t ixdtf16_reply(ixdtf16_calendar *calendar, const ixdtf16_
 /* The printers for 16-bit text. They write the canonical text to the array `out`. Each character is
  * one 16-bit code unit, whose value is the ASCII number of the character. `room` is the capacity of
  * the array, and a printer writes the length of the text to `count`. Both are numbers of code
- * units. Otherwise each printer does what a printer for 8-bit text does. To get the name of that
- * printer, leave out the 16. For example, ixdtf16_print does what ixdtf_print does, and
+ * units. Apart from this, each printer does what a printer for 8-bit text does. To get the name of
+ * that printer, leave out the 16. For example, ixdtf16_print does what ixdtf_print does, and
  * ixdtf16_parse reads the text as the same record. If a name or a calendar has a code unit outside
  * 1 to 126, no reader of 16-bit text writes this record. Then the printer returns
  * IXDTF_NOT_PRINTABLE.
@@ -765,9 +769,10 @@ IXDTF_CHECKED_ uint32_t ixdtf16_print_month_day(const ixdtf16_record *record, ui
 
 /* Explain why a reader refuses a text. `reader` is the number of the reader, such as
  * IXDTF_READER_PARSE. The function reads the text again, as this reader does, and returns what the
- * reader returns. It writes the error, the reason, the position and the part of the text that is
- * wrong to `out`. If the reader accepts the text, the function returns 0, and writes 0 to each
- * field. If no reader has the number, it returns IXDTF_NO_READER, and `out` is unchanged.
+ * reader returns. It writes four things to `out`: the error, the reason, the position, and which
+ * part of the text is wrong. If the reader accepts the text, the function returns 0, and writes 0
+ * to each field. If no reader has the number, the function returns IXDTF_NO_READER, and `out` is
+ * unchanged.
  * The fields `begin` and `end` say which part of the text is wrong:
  * - If a code unit does not fit, the part is this code unit.
  * - If the text ends too early, the part is empty, and is at the end of the text. In all other
@@ -780,8 +785,9 @@ IXDTF_CHECKED_ uint32_t ixdtf16_print_month_day(const ixdtf16_record *record, ui
  * - If a unit of a duration is not in order, the part is the unit with its number.
  * - If a time is ambiguous, because it begins like a month and a day or like a year and a month,
  *   the part is this beginning.
- * - If an annotation is refused because of its key or its value, the part is its bracket. The same
- *   holds if ixdtf_parse_rfc9557 refuses a time zone because of its form.
+ * - If an annotation is refused because of its key or its value, the part is its bracket. If
+ *   ixdtf_parse_rfc9557 refuses a time zone because of its form, the part is the bracket of the
+ *   zone.
  * For a refused reply, call ixdtf_explain_reply or ixdtf16_explain_reply. */
 IXDTF_CHECKED_ uint32_t ixdtf_explain(uint32_t reader, const uint8_t *text, size_t length,
     ixdtf_explanation *out);
@@ -789,43 +795,55 @@ IXDTF_CHECKED_ uint32_t ixdtf16_explain(uint32_t reader, const uint16_t *text, s
     ixdtf_explanation *out);
 
 /* Writes a report for people to the array `out`, in UTF-8. `room` is the capacity of `out`, in
- * bytes. The report has three lines: a message in plain English, the text, and a ^ under each byte
- * of the part that is wrong. There is at least one ^, and there are at most 24. If the part is
- * empty, one ^ is after the end of the text. For example:
- *     the month is 13, and has to be 01 to 12
- *     2024-13-01
- *          ^^
- * There is no newline at the end. docs/FAULTS.md has the messages. Of a long text, the second line
- * shows at most 48 characters before the part. Then it shows at most 24 characters: the part, and
- * the characters after it. Two dots stand for the characters that are left out. A control character is written as
- * "." in this line. If the text is not valid UTF-8, this line ends before the first byte that is
- * not valid.
+ * bytes. The report has three or four lines: a message in plain English, the text, a ^ under each
+ * byte of the part that is wrong, and a hint, if there is one. A hint says what to change in the
+ * text. There is at least one ^, and there are at most 24. If the part is empty, one ^ is after the
+ * end of the text. For example:
+ *     expected a digit of the month, which has two, found `-`
+ *     2024-3-02
+ *           ^
+ *     hint: write the month as `03`
+ * The report has no newline at its end. docs/FAULTS.md has the messages and the hints. If the text
+ * is long, the second line shows only some of its characters: at most 48 characters before the
+ * part, and at most 24 characters from the beginning of the part on. Two dots stand for the
+ * characters that are left out. A control character is written as "." in this line. If the text is
+ * not valid UTF-8, this line ends before the first byte that is not valid.
  * `explanation` is what ixdtf_explain wrote. The function uses only its fields `reason` and
  * `place`. `text` must be the complete text that was refused. If it has 16-bit code units, convert
  * it to UTF-8 first: see ixdtf16_to_utf8.
  * The function returns one of these:
  * - IXDTF_OK: the function has written the report to the first bytes of `out`, and its length, in
  *   bytes, to `count`. The report is not NUL-terminated. The bytes of `out` after it are unchanged.
- * - IXDTF_NOT_PRINTABLE: `reason` is not the number of a reason, or the report would be longer than
- *   IXDTF_REPORT_ROOM. `out` and `count` are unchanged. A report is never too long if ixdtf_explain
- *   wrote the explanation for this text.
+ * - IXDTF_NOT_PRINTABLE: `reason` is not the number of a reason. `out` and `count` are unchanged.
+ *   If ixdtf_explain returns the number of an error, it writes the number of a reason to `reason`.
  * - IXDTF_TOO_SHORT: the array is shorter than the report. `out` is unchanged. The function has
  *   written the length of the report, in bytes, to `count`.
- * An array of IXDTF_REPORT_ROOM bytes is always long enough. */
-#define IXDTF_REPORT_ROOM 512
+ * An array of IXDTF_REPORT_ROOM bytes is always long enough, if ixdtf_explain wrote the explanation
+ * for this text. */
+#define IXDTF_REPORT_ROOM 1024
 IXDTF_CHECKED_ uint32_t ixdtf_describe(const ixdtf_explanation *explanation, const uint8_t *text,
+    size_t length, uint8_t *out, size_t room, size_t *count);
+
+/* Writes only the hint of a report to the array `out`, in UTF-8. For the text 2024-3-02, the hint
+ * is "write the month as `03`". The arguments are those of ixdtf_describe. The function returns the
+ * same numbers as ixdtf_describe, in the same cases: for example, it returns IXDTF_TOO_SHORT if the
+ * array is shorter than the hint. It writes the hint instead of the report, and the length of the
+ * hint instead of the length of the report. If there is no hint, the function returns IXDTF_OK,
+ * writes nothing to `out`, and writes 0 to `count`. An array of IXDTF_REPORT_ROOM bytes is always
+ * long enough for a hint. */
+IXDTF_CHECKED_ uint32_t ixdtf_hint(const ixdtf_explanation *explanation, const uint8_t *text,
     size_t length, uint8_t *out, size_t room, size_t *count);
 
 /* Writes the name of a reason to `out`, as a slice: month_range for IXDTF_REASON_MONTH_RANGE. If no
  * reason has the number, the name is empty. The name is NUL-terminated. `length` does not count
- * this NUL. docs/FAULTS.md says for which texts a reason is given. It lists the reasons in the
- * section "Messages", with other names: MonthRange is month_range. Each word of such a name begins
- * with a capital letter, and there is no _ between the words. */
+ * this NUL. docs/FAULTS.md says for which texts a reason is given. Its section "Messages" lists the
+ * reasons by their names in Rust. For example, month_range has the name MonthRange in Rust: each
+ * word begins with a capital letter, and there is no _ between the words. */
 void ixdtf_reason_line(uint32_t reason, ixdtf_text *out);
 
 /* Writes the text of an error to `out`, as a slice. `error` is the number of the error, from 1 to
- * 46. The text is the one that ixdtf_error_message returns, but it is not NUL-terminated. For every
- * other number, the text is empty. */
+ * 46. For every other number, the text is empty. The text is the one that ixdtf_error_message
+ * returns, but it is not NUL-terminated. */
 void ixdtf_error_text(uint32_t error, ixdtf_text *out);
 
 /* Writes the name of a number to `out`, as a slice. This header defines the names, such as

@@ -318,13 +318,34 @@ static uint32_t reader_number(const char *reader, int strict, int lists) {
     return 0;
 }
 
+/* Checks the hint about an explanation, and that the report of `count` bytes ends with it. Returns the length of the report without the hint. */
+static size_t check_hint(const ixdtf_explanation *it, const uint8_t *text, size_t length, const uint8_t *report, size_t count) {
+    uint8_t hint[IXDTF_REPORT_ROOM], most[1] = { 0x5a };
+    size_t words = 77, again = 78, before = strlen("\nhint: ");
+    memset(hint, 0xa5, sizeof hint);
+    check(ixdtf_hint(it, text, length, hint, sizeof hint, &words) == IXDTF_OK && words < sizeof hint && hint[words] == 0xa5, "IXDTF_REPORT_ROOM bytes are enough for a hint, and the bytes after it are unchanged");
+    if (words == 0) {
+        return count;
+    }
+    check(ixdtf_hint(it, text, length, hint, words - 1, &again) == IXDTF_TOO_SHORT && again == words, "IXDTF_TOO_SHORT, and the length, for an array that is too short for the hint");
+    check(ixdtf_hint(it, text, length, most, 0, &again) == IXDTF_TOO_SHORT && most[0] == 0x5a, "after IXDTF_TOO_SHORT, the array is unchanged");
+    check(memchr(hint, '\n', words) == NULL, "a hint is one line");
+    if (count < words + before) {
+        check(0, "the report has the hint");
+        return count;
+    }
+    check(!memcmp(report + count - words, hint, words) && !memcmp(report + count - words - before, "\nhint: ", before), "the report ends with the line of the hint");
+    return count - words - before;
+}
+
 /* Checks the report of an explanation for a text in UTF-8: its first line is the message, its second line has the text, and its third line has a
- * mark under each byte of the part that is wrong. Also calls ixdtf_describe with arrays that are too short. */
+ * mark under each byte of the part that is wrong. If there is a hint, it is the fourth line. Also calls ixdtf_describe with arrays that are too
+ * short. */
 static void check_report(const ixdtf_explanation *it, const uint8_t *text, size_t length, const char *expected) {
     uint8_t out[IXDTF_REPORT_ROOM + 1], most[IXDTF_REPORT_ROOM];
     char message[256];
     char *unpaired;
-    size_t count = 77, again = 78, i, marks = it->end > it->begin ? it->end - it->begin : 1, line;
+    size_t count = 77, again = 78, i, marks = it->end > it->begin ? it->end - it->begin : 1, line, three;
     strcpy(message, expected);
     unpaired = strstr(message, "the code unit 0x"); /* a surrogate without the other one of its pair, which ixdtf16_to_utf8 writes as U+FFFD */
     if (unpaired != NULL) {
@@ -337,13 +358,14 @@ static void check_report(const ixdtf_explanation *it, const uint8_t *text, size_
     for (i = count; i < sizeof out; i++) {
         check(out[i] == 0xa5, "the bytes after the report are unchanged");
     }
-    for (i = 0; i < marks && i < 24 && i < count; i++) {
-        check(out[count - 1 - i] == '^', "the report ends with a mark for each byte of the part that is wrong");
+    three = check_hint(it, text, length, out, count);
+    for (i = 0; i < marks && i < 24 && i < three; i++) {
+        check(out[three - 1 - i] == '^', "the third line ends with a mark for each byte of the part that is wrong");
     }
-    check(out[count - 1 - i] == ' ' || out[count - 1 - i] == '\n', "no other byte has a mark");
+    check(out[three - 1 - i] == ' ' || out[three - 1 - i] == '\n', "no other byte has a mark");
     if (it->begin <= 48 && length <= it->begin + 24) {
-        check(out[count - 1 - i] == '\n' || count - i - it->begin > 1, "there is a space for each byte before the part");
-        check(count == line + 1 + length + 1 + it->begin + i || !is_shared((const char *)text, length, 2), "the report has three lines");
+        check(out[three - 1 - i] == '\n' || three - i - it->begin > 1, "there is a space for each byte before the part");
+        check(three == line + 1 + length + 1 + it->begin + i || !is_shared((const char *)text, length, 2), "the report has three lines before the hint");
         check(!memcmp(out + line + 1, text, it->begin), "the second line of the report is the text");
     }
     memset(most, 0x5a, sizeof most);
@@ -815,7 +837,7 @@ static void test_reasons(void) {
     check(!strcmp(ixdtf_reason_name(0x80000000u), "") && !strcmp(ixdtf_reason_name(0xffffffffu), ""), "a great number has no name");
 }
 
-/* Tests ixdtf_describe with explanations that ixdtf_explain does not write, with a long text, and with texts that are not UTF-8. */
+/* Tests ixdtf_describe and ixdtf_hint with explanations that ixdtf_explain does not write, with a long text, and with texts that are not UTF-8. */
 static void test_reports(void) {
     static const char *const shown[][2] = {
         { "2024-03-02T08:48:00-05:00[America/New_York][u-ca=hebrew][key=a_b]",
@@ -823,11 +845,13 @@ static void test_reports(void) {
             "                                                  ^" },
         { "2024-13-01", "the month is 13, and has to be 01 to 12\n2024-13-01\n     ^^" },
         { "2020-1\xe9-01", "expected a digit of the month, which has two, found the byte 0xE9\n2020-1\n      ^" },
-        { "2024-03-02\n", "expected `T`, a space, `[` or the end after the date, found a newline\n2024-03-02.\n          ^" },
+        { "2024-03-02\n", "expected `T`, a space, `[` or the end after the date, found a newline\n2024-03-02.\n          ^\nhint: remove the white space at the end" },
         { "", "the text is empty; expected a year of four digits\n\n^" },
+        { "2024-3-02", "expected a digit of the month, which has two, found `-`\n2024-3-02\n      ^\nhint: write the month as `03`" },
     };
+    static const char *const hint = "write the month as `03`";
     ixdtf_explanation it = IXDTF_EXPLANATION;
-    uint8_t out[IXDTF_REPORT_ROOM];
+    uint8_t out[IXDTF_REPORT_ROOM], longer[4 * IXDTF_REPORT_ROOM];
     char wide[1000];
     size_t i, count = 77;
     for (i = 0; i < COUNT(shown); i++) {
@@ -836,6 +860,8 @@ static void test_reports(void) {
         check(ixdtf_explain_text(IXDTF_READER_PARSE, shown[i][0], &it) != IXDTF_OK, "the text is refused");
         check(ixdtf_describe(&it, text, strlen(shown[i][0]), out, sizeof out, &count) == IXDTF_OK && count == strlen(shown[i][1]) && !memcmp(out, shown[i][1], count), "ixdtf_describe writes the expected report");
     }
+    check(ixdtf_hint(&it, (const uint8_t *)"2024-3-02", 9, out, sizeof out, &count) == IXDTF_OK && count == strlen(hint) && !memcmp(out, hint, count), "ixdtf_hint writes the expected hint");
+    check(ixdtf_explain_text(IXDTF_READER_PARSE, "2024-13-01", &it) != IXDTF_OK && ixdtf_hint(&it, (const uint8_t *)"2024-13-01", 10, NULL, 0, &count) == IXDTF_OK && count == 0, "if there is no hint, its length is 0");
     /* The longest line of a report: after 48 characters before the part, there are 24 characters of four bytes. */
     memset(wide, '1', sizeof wide);
     wide[0] = 'P';
@@ -847,17 +873,20 @@ static void test_reports(void) {
     it.reason = IXDTF_REASON_TIME_GROUP_DIGITS;
     it.place = 200;
     check(ixdtf_describe(&it, (const uint8_t *)wide, sizeof wide, out, sizeof out, &count) == IXDTF_OK && count > 256, "a report with characters of four bytes is short enough");
-    /* Explanations without a reason, and one whose report is too long. */
+    /* Explanations without a reason, and one that ixdtf_explain never writes, whose message shows nearly the complete text. */
     for (i = 0; i < 3; i++) {
         static const uint32_t numbers[] = { 0, 127, 0xffffffffu };
         it.reason = numbers[i];
         count = 77;
         memset(out, 0xa5, sizeof out);
-        check(ixdtf_describe(&it, (const uint8_t *)wide, sizeof wide, out, sizeof out, &count) == IXDTF_NOT_PRINTABLE && count == 77 && out[0] == 0xa5 && out[511] == 0xa5, "IXDTF_NOT_PRINTABLE without a reason");
+        check(ixdtf_describe(&it, (const uint8_t *)wide, sizeof wide, out, sizeof out, &count) == IXDTF_NOT_PRINTABLE && count == 77 && out[0] == 0xa5 && out[sizeof out - 1] == 0xa5, "IXDTF_NOT_PRINTABLE without a reason");
+        check(ixdtf_hint(&it, (const uint8_t *)wide, sizeof wide, out, sizeof out, &count) == IXDTF_NOT_PRINTABLE && count == 77 && out[0] == 0xa5, "no hint without a reason");
     }
     it.reason = IXDTF_REASON_TIME_READS_AS_MONTH_DAY;
     it.place = 996;
-    check(ixdtf_describe(&it, (const uint8_t *)wide, sizeof wide, out, sizeof out, &count) == IXDTF_NOT_PRINTABLE && count == 77 && out[0] == 0xa5, "IXDTF_NOT_PRINTABLE for a report that is too long");
+    check(ixdtf_describe(&it, (const uint8_t *)wide, sizeof wide, out, sizeof out, &count) == IXDTF_TOO_SHORT && count > sizeof out && out[0] == 0xa5, "IXDTF_TOO_SHORT, and the length, for a report that is longer than IXDTF_REPORT_ROOM");
+    i = count;
+    check(ixdtf_describe(&it, (const uint8_t *)wide, sizeof wide, longer, sizeof longer, &count) == IXDTF_OK && count == i && count < sizeof longer, "a longer array is enough for this report");
     it.place = SIZE_MAX;
     it.reason = IXDTF_REASON_MONTH_RANGE;
     check(ixdtf_describe(&it, NULL, 0, out, sizeof out, &count) == IXDTF_OK, "a position after the end of the text is its end, and an empty text may be NULL");

@@ -1,5 +1,5 @@
-/* Says for each argument whether it is a date, or a date and a time. If not, prints what is wrong, the text, and a ^ under each byte of the part
- * that is wrong. The exit status is 1 if an argument is refused.
+/* Says for each argument whether it is a date, or a date and a time. If not, prints what is wrong, the text, a ^ under each byte of the part that is
+ * wrong, and a hint, if there is one. The exit status is 1 if an argument is refused.
  *
  *     cc -std=c99 explain.c $(pkg-config --cflags --libs ixdtf) -o explain
  *     ./explain 2024-03-02T08:48:00Z 2024-02-30

@@ -1,42 +1,13 @@
 -- The reasons at the indices of their numbers, and their names.
-use Rattle.ixdtf_grammar.specs.declared.reason.Reason.TheVariants as reasons
-use Rattle.std.proofs.Common.{◌≡◌, ◌⊎◌, ℕ, ◌+◌, ◌-◌, ◌≤◌, ◌<◌, suc, zero, List, [], ◌∷◌, ◌++◌, map, get_or, refl, ◌∙◌, inl, inr, arith}
+use Rattle.std.proofs.Common.{◌≡◌, ◌≢◌, ◌⊎◌, ℕ, ◌+◌, ◌-◌, ◌≤◌, ◌<◌, suc, zero, List, [], ◌∷◌, ◌++◌, map, get_or, refl, sym, ap, ◌∙◌, inl, inr, rules, arith}
 use Rattle.std.proofs.Math.ListN.{get_or-map}
-use Rattle.std.proofs.lemmas.{List.{get_or_default, get_or_past}, Bool.ne_eqb}
+use Rattle.std.proofs.lemmas.{List.{get_or_default, get_or_past}, Bool.{ne_eqb, cases_lt}}
 use Rattle.ixdtf_grammar.specs.declared.reason.Reason.{Reason}
+use Rattle.ixdtf_grammar.specs.declared.reason.Reason.TheVariants as variants
 use Rattle.ixdtf_grammar.specs.contracts.reason.Reason.{the_type}
 use denote.Enum.Bare.{tag_one}
-use Rattle.ixdtf_c.specs.Reasons.{reason_number, reason_names, line_of}
-
--- The reasons with the numbers 1 to 126, in order.
-abbrev pub reasons_at : List Reason
-reasons_at =
-    reasons.YearStart ∷ reasons.YearDigits ∷ reasons.ExtendedYearDigits ∷ reasons.MinusZeroYear ∷ reasons.AfterYear
-    ∷ reasons.MonthDigits ∷ reasons.MonthRange ∷ reasons.AfterHyphenedMonth ∷ reasons.AfterBasicMonth ∷ reasons.DayDigits
-    ∷ reasons.DayRange ∷ reasons.AfterDate ∷ reasons.AfterYearInYearMonth ∷ reasons.AfterYearMonth ∷ reasons.MonthDayStart
-    ∷ reasons.MonthDayHyphen ∷ reasons.MonthDayMonthDigits ∷ reasons.MonthDayMonthRange ∷ reasons.AfterMonthDayMonth ∷ reasons.MonthDayDayDigits
-    ∷ reasons.MonthDayRange ∷ reasons.AfterMonthDay ∷ reasons.TimeStart ∷ reasons.TimeReadsAsMonthDay ∷ reasons.TimeReadsAsYearMonth
-    ∷ reasons.HourStart ∷ reasons.HourDigit ∷ reasons.HourRange ∷ reasons.AfterHour ∷ reasons.MinuteDigits
-    ∷ reasons.MinuteRange ∷ reasons.AfterBasicMinute ∷ reasons.AfterColonMinute ∷ reasons.SecondDigits ∷ reasons.SecondRange
-    ∷ reasons.AfterSecond ∷ reasons.FractionStart ∷ reasons.AfterFraction ∷ reasons.OffsetHourStart ∷ reasons.OffsetHourDigit
-    ∷ reasons.OffsetHourRange ∷ reasons.OffsetAfterHour ∷ reasons.OffsetMinuteDigits ∷ reasons.OffsetMinuteRange ∷ reasons.OffsetAfterBasicMinute
-    ∷ reasons.OffsetAfterColonMinute ∷ reasons.OffsetSecondDigits ∷ reasons.OffsetSecondRange ∷ reasons.OffsetAfterSecond ∷ reasons.OffsetFractionStart
-    ∷ reasons.OffsetAfterFraction ∷ reasons.ZoneOffsetHourStart ∷ reasons.ZoneOffsetHourDigit ∷ reasons.ZoneOffsetHourRange ∷ reasons.ZoneOffsetAfterHour
-    ∷ reasons.ZoneOffsetMinuteDigits ∷ reasons.ZoneOffsetMinuteRange ∷ reasons.ZoneOffsetAfterBasicMinute ∷ reasons.ZoneOffsetAfterColonMinute ∷ reasons.ZoneOffsetSecondDigits
-    ∷ reasons.ZoneOffsetSecondRange ∷ reasons.ZoneOffsetAfterSecond ∷ reasons.ZoneOffsetFractionStart ∷ reasons.ZoneOffsetAfterFraction ∷ reasons.OffsetStart
-    ∷ reasons.AfterZulu ∷ reasons.FourDigits ∷ reasons.AfterFourDigits ∷ reasons.MonthFieldDigits ∷ reasons.DayFieldDigits
-    ∷ reasons.HourFieldDigits ∷ reasons.MinuteFieldDigits ∷ reasons.SecondFieldDigits ∷ reasons.OffsetHourFieldDigits ∷ reasons.OffsetMinuteFieldDigits
-    ∷ reasons.MonthFieldRange ∷ reasons.DayFieldRange ∷ reasons.HourFieldRange ∷ reasons.MinuteFieldRange ∷ reasons.SecondFieldRange
-    ∷ reasons.OffsetHourFieldRange ∷ reasons.OffsetMinuteFieldRange ∷ reasons.AfterMonthField ∷ reasons.AfterDayField ∷ reasons.AfterHourField
-    ∷ reasons.AfterMinuteField ∷ reasons.AfterSecondField ∷ reasons.AfterOffsetHourField ∷ reasons.AfterOffsetMinuteField ∷ reasons.AfterPoint
-    ∷ reasons.AfterSecfrac ∷ reasons.AfterUtc ∷ reasons.IdentifierStart ∷ reasons.ZoneNameStart ∷ reasons.InZoneName
-    ∷ reasons.AfterZoneSlash ∷ reasons.FirstBracketStart ∷ reasons.FirstCriticalStart ∷ reasons.FirstBracketScan ∷ reasons.FirstNameForm
-    ∷ reasons.FirstOffsetForm ∷ reasons.AfterBracket ∷ reasons.KeyStart ∷ reasons.CriticalKeyStart ∷ reasons.InKey
-    ∷ reasons.ValueStart ∷ reasons.InValue ∷ reasons.AfterValueHyphen ∷ reasons.DurationStart ∷ reasons.AfterDurationSign
-    ∷ reasons.AfterDurationDesignator ∷ reasons.AfterDateGroups ∷ reasons.AfterTimeDesignator ∷ reasons.AfterTimeGroups ∷ reasons.AfterFractionGroup
-    ∷ reasons.DateGroupDigits ∷ reasons.TimeGroupDigits ∷ reasons.DateGroupRange ∷ reasons.TimeGroupRange ∷ reasons.DateUnitOrder
-    ∷ reasons.TimeUnitOrder ∷ reasons.DateUnitRange ∷ reasons.GroupFractionStart ∷ reasons.GroupFractionDigits ∷ reasons.UnrecognizedCritical
-    ∷ reasons.CriticalDuplicateCalendar ∷ []
+use Rattle.ixdtf_grammar.specs.ReasonNames.{reason_name}
+use Rattle.ixdtf_c.specs.Reasons.{reason_number, reasons_in_order, line_of}
 
 -- The list of `n` numbers that begins at `from`.
 counted : ℕ → ℕ → List ℕ
@@ -50,15 +21,19 @@ counted_at from (suc n) zero d less = omega arith
 counted_at from (suc n) (suc i) d less = counted_at (from + 1) n i d (omega (arith, less)) ∙ omega arith
 
 -- The reason at the index `number - 1` has this number.
-pub reason_at : (number : ℕ) (other : Reason) → 1 ≤ number → number ≤ 126 → reason_number (get_or reasons_at (number - 1) other) ≡ number
+pub reason_at : (number : ℕ) (other : Reason) → 1 ≤ number → number ≤ 126 → reason_number (get_or reasons_in_order (number - 1) other) ≡ number
 unfolding counted
 reason_at number other from to =
-    let at : reason_number (get_or reasons_at (number - 1) other) ≡ get_or (counted 1 126) (number - 1) (reason_number other) = rw (← get_or-map reason_number) refl in
+    let at : reason_number (get_or reasons_in_order (number - 1) other) ≡ get_or (counted 1 126) (number - 1) (reason_number other) = rw (← get_or-map reason_number) refl in
     at ∙ counted_at 1 126 (number - 1) (reason_number other) (omega (arith, from, to)) ∙ omega (arith, from)
 
 -- Two reasons with one number are the same.
 pub same_reason : (one other : Reason) → reason_number one ≡ reason_number other → one ≡ other
 same_reason one other same = tag_one the_type tt one other (omega (arith, same))
+
+-- The names of the numbers 1 to 126.
+abbrev reason_names : List (List ℕ)
+reason_names = map reason_name reasons_in_order
 
 -- A name with a NUL after it.
 abbrev pub ended : List ℕ → List ℕ
@@ -75,3 +50,25 @@ no_line number out = elim out [
   | inl less ↦ let none : number ≡ 0 = omega (arith, less) in rw none refl
   | inr more ↦ rw (ne_eqb number 0 (λ is. omega (arith, more, is))) (get_or_past reason_names (number - 1) [] (omega (arith, more)))
 ]
+
+-- There are 126 reasons.
+few : (reason : Reason) → reason_number reason ≤ 126
+few reason = search rules
+
+-- The name of the number of a reason is the name of the reason.
+pub name_of_reason : (reason : Reason) → line_of (reason_number reason) ≡ reason_name reason
+name_of_reason reason =
+    let number = reason_number reason in
+    let index : number - 1 < 126 = omega (arith, few reason) in
+    let at : get_or reasons_in_order (number - 1) reason ≡ reason = same_reason _ reason (reason_at number reason (omega arith) (few reason)) in
+    rw (ne_eqb number 0 (λ is. omega (arith, is)))
+    (get_or_default reason_names (number - 1) [] (reason_name reason) index ∙ get_or-map reason_name reasons_in_order (number - 1) reason ∙ ap reason_name at)
+
+-- A number that no reason has does not have a name.
+pub nameless : (number : ℕ) → ((reason : Reason) → number ≢ reason_number reason) → line_of number ≡ []
+nameless number none = no_line number (outside (cases_lt number 1) (cases_lt 126 number))
+  where
+    outside : (number < 1) ⊎ (1 ≤ number) → (126 < number) ⊎ (number ≤ 126) → (number < 1) ⊎ (126 < number)
+    outside (inl less) other = inl less
+    outside (inr some) (inl more) = inr more
+    outside (inr some) (inr most) = absurd (none (get_or reasons_in_order (number - 1) variants.YearStart) (sym (reason_at number variants.YearStart some most)))

@@ -1,144 +1,45 @@
 -- The numbers and the names of the reasons why a reader refuses a text.
-use Rattle.std.specs.Prelude.{ℕ, ◌+◌, ◌-◌, List, [], ◌∷◌, codes, get_or, nat_eq, if◌then◌else◌}
-use Rattle.ixdtf_grammar.specs.contracts.reason.Reason as reasons
+use Rattle.ixdtf_grammar.specs.declared.reason.Reason.TheVariants as variants
+use Rattle.std.specs.Prelude.{ℕ, ◌+◌, ◌-◌, List, [], ◌∷◌, map, get_or, nat_eq, if◌then◌else◌}
+use Rattle.ixdtf_grammar.specs.contracts.reason.Reason as contracts
 use denote.Enum.Declared.{tag_of}
 use Rattle.ixdtf_grammar.specs.declared.reason.Reason.{Reason}
+use Rattle.ixdtf_grammar.specs.ReasonNames.{reason_name}
 
 -- The number of a reason. The numbers begin at 1 and follow the order in which `Reason` declares the reasons.
 abbrev pub reason_number : Reason → ℕ
-reason_number reason = tag_of reasons.the_type reason + 1
+reason_number reason = tag_of contracts.the_type reason + 1
 
--- The names of the numbers 1 to 126.
-abbrev pub reason_names : List (List ℕ)
-reason_names =
-    codes "year_start"
-    ∷ codes "year_digits"
-    ∷ codes "extended_year_digits"
-    ∷ codes "minus_zero_year"
-    ∷ codes "after_year"
-    ∷ codes "month_digits"
-    ∷ codes "month_range"
-    ∷ codes "after_hyphened_month"
-    ∷ codes "after_basic_month"
-    ∷ codes "day_digits"
-    ∷ codes "day_range"
-    ∷ codes "after_date"
-    ∷ codes "after_year_in_year_month"
-    ∷ codes "after_year_month"
-    ∷ codes "month_day_start"
-    ∷ codes "month_day_hyphen"
-    ∷ codes "month_day_month_digits"
-    ∷ codes "month_day_month_range"
-    ∷ codes "after_month_day_month"
-    ∷ codes "month_day_day_digits"
-    ∷ codes "month_day_range"
-    ∷ codes "after_month_day"
-    ∷ codes "time_start"
-    ∷ codes "time_reads_as_month_day"
-    ∷ codes "time_reads_as_year_month"
-    ∷ codes "hour_start"
-    ∷ codes "hour_digit"
-    ∷ codes "hour_range"
-    ∷ codes "after_hour"
-    ∷ codes "minute_digits"
-    ∷ codes "minute_range"
-    ∷ codes "after_basic_minute"
-    ∷ codes "after_colon_minute"
-    ∷ codes "second_digits"
-    ∷ codes "second_range"
-    ∷ codes "after_second"
-    ∷ codes "fraction_start"
-    ∷ codes "after_fraction"
-    ∷ codes "offset_hour_start"
-    ∷ codes "offset_hour_digit"
-    ∷ codes "offset_hour_range"
-    ∷ codes "offset_after_hour"
-    ∷ codes "offset_minute_digits"
-    ∷ codes "offset_minute_range"
-    ∷ codes "offset_after_basic_minute"
-    ∷ codes "offset_after_colon_minute"
-    ∷ codes "offset_second_digits"
-    ∷ codes "offset_second_range"
-    ∷ codes "offset_after_second"
-    ∷ codes "offset_fraction_start"
-    ∷ codes "offset_after_fraction"
-    ∷ codes "zone_offset_hour_start"
-    ∷ codes "zone_offset_hour_digit"
-    ∷ codes "zone_offset_hour_range"
-    ∷ codes "zone_offset_after_hour"
-    ∷ codes "zone_offset_minute_digits"
-    ∷ codes "zone_offset_minute_range"
-    ∷ codes "zone_offset_after_basic_minute"
-    ∷ codes "zone_offset_after_colon_minute"
-    ∷ codes "zone_offset_second_digits"
-    ∷ codes "zone_offset_second_range"
-    ∷ codes "zone_offset_after_second"
-    ∷ codes "zone_offset_fraction_start"
-    ∷ codes "zone_offset_after_fraction"
-    ∷ codes "offset_start"
-    ∷ codes "after_zulu"
-    ∷ codes "four_digits"
-    ∷ codes "after_four_digits"
-    ∷ codes "month_field_digits"
-    ∷ codes "day_field_digits"
-    ∷ codes "hour_field_digits"
-    ∷ codes "minute_field_digits"
-    ∷ codes "second_field_digits"
-    ∷ codes "offset_hour_field_digits"
-    ∷ codes "offset_minute_field_digits"
-    ∷ codes "month_field_range"
-    ∷ codes "day_field_range"
-    ∷ codes "hour_field_range"
-    ∷ codes "minute_field_range"
-    ∷ codes "second_field_range"
-    ∷ codes "offset_hour_field_range"
-    ∷ codes "offset_minute_field_range"
-    ∷ codes "after_month_field"
-    ∷ codes "after_day_field"
-    ∷ codes "after_hour_field"
-    ∷ codes "after_minute_field"
-    ∷ codes "after_second_field"
-    ∷ codes "after_offset_hour_field"
-    ∷ codes "after_offset_minute_field"
-    ∷ codes "after_point"
-    ∷ codes "after_secfrac"
-    ∷ codes "after_utc"
-    ∷ codes "identifier_start"
-    ∷ codes "zone_name_start"
-    ∷ codes "in_zone_name"
-    ∷ codes "after_zone_slash"
-    ∷ codes "first_bracket_start"
-    ∷ codes "first_critical_start"
-    ∷ codes "first_bracket_scan"
-    ∷ codes "first_name_form"
-    ∷ codes "first_offset_form"
-    ∷ codes "after_bracket"
-    ∷ codes "key_start"
-    ∷ codes "critical_key_start"
-    ∷ codes "in_key"
-    ∷ codes "value_start"
-    ∷ codes "in_value"
-    ∷ codes "after_value_hyphen"
-    ∷ codes "duration_start"
-    ∷ codes "after_duration_sign"
-    ∷ codes "after_duration_designator"
-    ∷ codes "after_date_groups"
-    ∷ codes "after_time_designator"
-    ∷ codes "after_time_groups"
-    ∷ codes "after_fraction_group"
-    ∷ codes "date_group_digits"
-    ∷ codes "time_group_digits"
-    ∷ codes "date_group_range"
-    ∷ codes "time_group_range"
-    ∷ codes "date_unit_order"
-    ∷ codes "time_unit_order"
-    ∷ codes "date_unit_range"
-    ∷ codes "group_fraction_start"
-    ∷ codes "group_fraction_digits"
-    ∷ codes "unrecognized_critical"
-    ∷ codes "critical_duplicate_calendar"
-    ∷ []
+-- The reasons with the numbers 1 to 126, in order.
+abbrev pub reasons_in_order : List Reason
+reasons_in_order =
+    variants.YearStart ∷ variants.YearDigits ∷ variants.ExtendedYearDigits ∷ variants.MinusZeroYear ∷ variants.AfterYear
+    ∷ variants.MonthDigits ∷ variants.MonthRange ∷ variants.AfterHyphenedMonth ∷ variants.AfterBasicMonth ∷ variants.DayDigits
+    ∷ variants.DayRange ∷ variants.AfterDate ∷ variants.AfterYearInYearMonth ∷ variants.AfterYearMonth ∷ variants.MonthDayStart
+    ∷ variants.MonthDayHyphen ∷ variants.MonthDayMonthDigits ∷ variants.MonthDayMonthRange ∷ variants.AfterMonthDayMonth ∷ variants.MonthDayDayDigits
+    ∷ variants.MonthDayRange ∷ variants.AfterMonthDay ∷ variants.TimeStart ∷ variants.TimeReadsAsMonthDay ∷ variants.TimeReadsAsYearMonth
+    ∷ variants.HourStart ∷ variants.HourDigit ∷ variants.HourRange ∷ variants.AfterHour ∷ variants.MinuteDigits
+    ∷ variants.MinuteRange ∷ variants.AfterBasicMinute ∷ variants.AfterColonMinute ∷ variants.SecondDigits ∷ variants.SecondRange
+    ∷ variants.AfterSecond ∷ variants.FractionStart ∷ variants.AfterFraction ∷ variants.OffsetHourStart ∷ variants.OffsetHourDigit
+    ∷ variants.OffsetHourRange ∷ variants.OffsetAfterHour ∷ variants.OffsetMinuteDigits ∷ variants.OffsetMinuteRange ∷ variants.OffsetAfterBasicMinute
+    ∷ variants.OffsetAfterColonMinute ∷ variants.OffsetSecondDigits ∷ variants.OffsetSecondRange ∷ variants.OffsetAfterSecond ∷ variants.OffsetFractionStart
+    ∷ variants.OffsetAfterFraction ∷ variants.ZoneOffsetHourStart ∷ variants.ZoneOffsetHourDigit ∷ variants.ZoneOffsetHourRange ∷ variants.ZoneOffsetAfterHour
+    ∷ variants.ZoneOffsetMinuteDigits ∷ variants.ZoneOffsetMinuteRange ∷ variants.ZoneOffsetAfterBasicMinute ∷ variants.ZoneOffsetAfterColonMinute ∷ variants.ZoneOffsetSecondDigits
+    ∷ variants.ZoneOffsetSecondRange ∷ variants.ZoneOffsetAfterSecond ∷ variants.ZoneOffsetFractionStart ∷ variants.ZoneOffsetAfterFraction ∷ variants.OffsetStart
+    ∷ variants.AfterZulu ∷ variants.FourDigits ∷ variants.AfterFourDigits ∷ variants.MonthFieldDigits ∷ variants.DayFieldDigits
+    ∷ variants.HourFieldDigits ∷ variants.MinuteFieldDigits ∷ variants.SecondFieldDigits ∷ variants.OffsetHourFieldDigits ∷ variants.OffsetMinuteFieldDigits
+    ∷ variants.MonthFieldRange ∷ variants.DayFieldRange ∷ variants.HourFieldRange ∷ variants.MinuteFieldRange ∷ variants.SecondFieldRange
+    ∷ variants.OffsetHourFieldRange ∷ variants.OffsetMinuteFieldRange ∷ variants.AfterMonthField ∷ variants.AfterDayField ∷ variants.AfterHourField
+    ∷ variants.AfterMinuteField ∷ variants.AfterSecondField ∷ variants.AfterOffsetHourField ∷ variants.AfterOffsetMinuteField ∷ variants.AfterPoint
+    ∷ variants.AfterSecfrac ∷ variants.AfterUtc ∷ variants.IdentifierStart ∷ variants.ZoneNameStart ∷ variants.InZoneName
+    ∷ variants.AfterZoneSlash ∷ variants.FirstBracketStart ∷ variants.FirstCriticalStart ∷ variants.FirstBracketScan ∷ variants.FirstNameForm
+    ∷ variants.FirstOffsetForm ∷ variants.AfterBracket ∷ variants.KeyStart ∷ variants.CriticalKeyStart ∷ variants.InKey
+    ∷ variants.ValueStart ∷ variants.InValue ∷ variants.AfterValueHyphen ∷ variants.DurationStart ∷ variants.AfterDurationSign
+    ∷ variants.AfterDurationDesignator ∷ variants.AfterDateGroups ∷ variants.AfterTimeDesignator ∷ variants.AfterTimeGroups ∷ variants.AfterFractionGroup
+    ∷ variants.DateGroupDigits ∷ variants.TimeGroupDigits ∷ variants.DateGroupRange ∷ variants.TimeGroupRange ∷ variants.DateUnitOrder
+    ∷ variants.TimeUnitOrder ∷ variants.DateUnitRange ∷ variants.GroupFractionStart ∷ variants.GroupFractionDigits ∷ variants.UnrecognizedCritical
+    ∷ variants.CriticalDuplicateCalendar ∷ []
 
 -- The name of the reason with this number. For every other number, the name is empty.
 abbrev pub line_of : ℕ → List ℕ
-line_of number = if nat_eq number 0 then [] else get_or reason_names (number - 1) []
+line_of number = if nat_eq number 0 then [] else get_or (map reason_name reasons_in_order) (number - 1) []

@@ -2,6 +2,7 @@
 
 ghost use Rattle.std.specs.Prelude.{◌≡◌, ◌≢◌, ◌≤◌, ◌++◌, ◌∷◌, [], IfSome, IfNone};
 ghost use Rattle.ixdtf_grammar.specs.declared.reason.Reason.{Reason as AnyReason};
+ghost use Rattle.ixdtf_grammar.specs.ReasonNames.{reason_name};
 ghost use Rattle.ixdtf_c.specs.Reasons.{reason_number, line_of};
 
 use crate::errors::Text;
@@ -306,7 +307,8 @@ fn name_and_zero(number: u32) -> &'static [u8]
 /// If no reason has the number, the name is empty. A NUL follows the name in memory. The length of the slice does not count it.
 #[unsafe(no_mangle)]
 pub extern "C" fn ixdtf_reason_line(number: u32, out: &mut Text<'_>)
-    ensures name { out.new.bytes.now ≡ line_of number }
+    ensures name { (reason : AnyReason) → number ≡ reason_number reason → out.new.bytes.now ≡ reason_name reason }
+    ensures none { ((reason : AnyReason) → number ≢ reason_number reason) → out.new.bytes.now ≡ [] }
 {
     let name = name_and_zero(number);
     out.bytes = to_c(&name[..name.len() - 1]);

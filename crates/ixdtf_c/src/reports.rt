@@ -1,88 +1,96 @@
-//! The report of an error: its message, the text, and marks under the part of the text that is wrong.
+//! The report of an error: its message, the text, marks under the part of the text that is wrong, and a hint.
 
-ghost use Rattle.std.specs.Prelude.{◌≡◌, ◌≢◌, ◌≤◌, ◌++◌, ◌∷◌, take, IfSome};
+ghost use Rattle.std.specs.Prelude.{◌≡◌, ◌≢◌, take, IfSome, IfNone};
+ghost use Rattle.std.specs.Str.Lossy.{utf8_valid_len};
 ghost use Rattle.ixdtf_grammar.specs.declared.reason.Reason.{Reason as AnyReason};
-ghost use Rattle.ixdtf_grammar.specs.LocatedTexts.{pointed_text};
-ghost use Rattle.ixdtf_grammar.specs.Messages.{message_text};
+ghost use Rattle.ixdtf_c.specs.Adding.{Adds};
 ghost use Rattle.ixdtf_c.specs.Reasons.{reason_number};
-ghost use Rattle.ixdtf_c.specs.Reported.{Describes, WritesReport};
+ghost use Rattle.ixdtf_c.specs.Reported.{Describes, Hints, hint_text, report_text};
 
+use crate::adding::add;
 use crate::explaining::Explanation;
+use crate::pointed::add_pointed;
 use crate::reasons::reason_by_number;
-use ixdtf::{LocatedError, Message, ParseError, PointedText};
-use std::fmt;
-use std::fmt::Write;
+use crate::shown::add_message;
+use ixdtf::{LocatedError, Message, ParseError, WrongPart};
+use std::str::from_utf8;
 
-/// The greatest length of a report in bytes. It is `IXDTF_REPORT_ROOM` of the C header.
-const ROOM: usize = 512;
-
-/// The bytes of a report that are written up to now.
-#[derive(Drop)]
-struct Report {
-    /// The first `length` bytes are the report.
-    bytes: [u8; ROOM],
-    /// The length in bytes.
-    length: usize,
+/// What is written in a report.
+#[derive(Clone, Copy)]
+struct Report<'a> {
+    /// What is wrong in the text.
+    message: Message<'a>,
+    /// The complete text that was refused.
+    text: &'a [u8],
+    /// The part of the text that is wrong.
+    part: WrongPart,
+    /// What to change in the text.
+    hint: Option<Message<'a>>,
 }
 
-impl Write for Report {
-    ghost write_str_gives = { λ old part new. (take new.length new.bytes ≡ take old.length old.bytes ++ part) × (new.length ≤ 512) };
-
-    /// Adds a part. Returns an error if the report is then longer than `ROOM`.
-    fn write_str(&mut self, part: &str) -> fmt::Result {
-        let bytes = part.as_bytes();
-        let Some(left) = ROOM.checked_sub(self.length) else {
-            return Err(fmt::Error);
-        };
-        if left < bytes.len() {
-            return Err(fmt::Error);
-        }
-        let end = self.length + bytes.len();
-        self.bytes[self.length..end].copy_from_slice(bytes);
-        self.length = end;
-        Ok(())
-    }
-}
-
-/// Returns the report, or `None` if it is longer than `ROOM`.
-fn report_of(message: &Message<'_>, pointed: &PointedText<'_>) -> Option<Report>
-    ensures text { IfSome result (λ report. take report.length report.bytes ≡
-        message_text message.now ++ (10 ∷ pointed_text pointed.now.text.now pointed.now.part.begin pointed.now.part.end)) }
-    ensures most { IfSome result (λ report. report.length ≤ 512) }
-{
-    let mut report = Report {
-        bytes: [0; ROOM],
-        length: 0,
-    };
-    match write!(report, "{message}\n{pointed}") {
-        Ok(()) => Some(report),
-        Err(_) => None,
-    }
-}
-
-/// Writes a report to the first bytes of `out`, and its length to `count`. Returns 0.
+/// Returns the error that has the reason and the position of the explanation, or `None` if no reason has its number.
 ///
-/// Returns 102 if `out` is too short. Then `out` is unchanged, and `count` is the length.
-fn copy_report(report: &Report, out: &mut [u8], count: &mut usize) -> u32
-    requires { report.now.length ≤ 512 }
-    ensures { WritesReport (take report.now.length report.now.bytes) out.old out.new count.old count.new result }
+/// The message, the part and the hint do not depend on the field `error`.
+fn error_of(explanation: &Explanation) -> Option<LocatedError>
+    ensures reason { IfSome result (λ error. reason_number error.reason ≡ explanation.now.reason) }
+    ensures place { IfSome result (λ error. error.at ≡ explanation.now.place) }
+    ensures none { IfNone result ((reason : AnyReason) → explanation.now.reason ≢ reason_number reason) }
 {
-    *count = report.length;
-    if out.len() < report.length {
-        return 102;
+    match reason_by_number(explanation.reason) {
+        None => None,
+        Some(reason) => Some(LocatedError {
+            error: ParseError::InvalidEnd,
+            at: explanation.place,
+            reason,
+        }),
     }
-    out[..report.length].copy_from_slice(&report.bytes[..report.length]);
-    0
+}
+
+/// Returns the characters before the first byte that is not UTF-8.
+fn valid_front(bytes: &[u8]) -> &str
+    ensures { result.now ≡ take (utf8_valid_len bytes.now) bytes.now }
+{
+    match from_utf8(bytes) {
+        Ok(text) => text,
+        Err(error) => from_utf8(&bytes[..error.valid_up_to().min(bytes.len())]).unwrap_or(""),
+    }
+}
+
+/// Writes a report to the beginning of the array, as far as it fits. Returns the length of the report, also if it does not fit.
+fn add_report(out: &mut [u8], report: &Report<'_>) -> usize
+    ensures { Adds out.old out.new 0 result (report_text report.now.message report.now.part report.now.hint report.now.text.now) }
+{
+    let newline = add_message(out, 0, &report.message);
+    let lines = add(out, newline, b"\n");
+    let end = add_pointed(out, lines, valid_front(report.text), report.part);
+    match &report.hint {
+        None => end,
+        Some(hint) => {
+            let words = add(out, end, b"\nhint: ");
+            add_message(out, words, hint)
+        }
+    }
+}
+
+/// Writes a hint to the beginning of the array, as far as it fits. Returns the length of the hint, which is 0 if there is none.
+fn add_hint(out: &mut [u8], hint: &Option<Message<'_>>) -> usize
+    ensures { Adds out.old out.new 0 result (hint_text hint.now) }
+{
+    match hint {
+        None => 0,
+        Some(hint) => add_message(out, 0, hint),
+    }
 }
 
 /// Writes the report of an error to the first bytes of `out`, and its length to `count`. Returns 0.
 ///
-/// The report has three lines, and no newline at the end: the message of the error, the text, and marks under the part of the text
-/// that is wrong. Only the fields `reason` and `place` of the explanation are used. `text` must be the complete text that was
-/// refused. If the text has 16-bit code units, `text` must be this text, converted to UTF-8.
+/// The report has at least three lines, and no newline at the end: the message of the error, the text, and marks under the part of the
+/// text that is wrong. If there is a hint, the last line is `hint: ` and the hint. Only the fields `reason` and `place` of the explanation
+/// are used. `text` must be the complete text that was refused. If the text has 16-bit code units, `text` must be this text, converted to
+/// UTF-8.
 ///
 /// Returns 102 if `out` is too short. Then `out` is unchanged, and `count` is the length of the report. Returns 101 if the
-/// explanation has no reason, or if the report is longer than 512 bytes. Then `out` and `count` are unchanged.
+/// explanation has no reason. Then `out` and `count` are unchanged.
 #[unsafe(no_mangle)]
 pub extern "C" fn ixdtf_describe(
     explanation: &Explanation,
@@ -91,21 +99,50 @@ pub extern "C" fn ixdtf_describe(
     count: &mut usize,
 ) -> u32
     ensures describes { (reason : AnyReason) → explanation.now.reason ≡ reason_number reason →
-        Describes reason text.now explanation.now.place out.old out.new count.old count.new result }
+        Describes reason text.now explanation.now.place out.old out.new count.new result }
     ensures none { ((reason : AnyReason) → explanation.now.reason ≢ reason_number reason) →
         (result ≡ 101) × (out.new ≡ out.old) × (count.new ≡ count.old) }
 {
-    let Some(reason) = reason_by_number(explanation.reason) else {
+    let Some(error) = error_of(explanation) else {
         return 101;
     };
-    // The message and the marks do not depend on the error, but on the reason and on the position.
-    let error = LocatedError {
-        error: ParseError::InvalidEnd,
-        at: explanation.place,
-        reason,
+    let report = Report {
+        message: error.message_in(text),
+        text,
+        part: error.part_in(text),
+        hint: error.hint_in(text),
     };
-    match report_of(&error.message_in(text), &error.in_bytes(text)) {
-        None => 101,
-        Some(report) => copy_report(&report, out, count),
+    *count = add_report(&mut [], &report);
+    if out.len() < *count {
+        return 102;
     }
+    let _end = add_report(out, &report);
+    0
+}
+
+/// Writes the hint about an error to the first bytes of `out`, and its length to `count`. Returns 0. If there is no hint, the length is 0.
+///
+/// The arguments, and what the function returns otherwise, are those of `ixdtf_describe`.
+#[unsafe(no_mangle)]
+pub extern "C" fn ixdtf_hint(
+    explanation: &Explanation,
+    text: &[u8],
+    out: &mut [u8],
+    count: &mut usize,
+) -> u32
+    ensures hints { (reason : AnyReason) → explanation.now.reason ≡ reason_number reason →
+        Hints reason text.now explanation.now.place out.old out.new count.new result }
+    ensures none { ((reason : AnyReason) → explanation.now.reason ≢ reason_number reason) →
+        (result ≡ 101) × (out.new ≡ out.old) × (count.new ≡ count.old) }
+{
+    let Some(error) = error_of(explanation) else {
+        return 101;
+    };
+    let hint = error.hint_in(text);
+    *count = add_hint(&mut [], &hint);
+    if out.len() < *count {
+        return 102;
+    }
+    let _end = add_hint(out, &hint);
+    0
 }

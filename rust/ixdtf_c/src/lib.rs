@@ -14,6 +14,7 @@
 
 #![cfg_attr(not(test), no_std)]
 
+mod adding;
 mod asked;
 mod duration_texts;
 mod durations;
@@ -29,12 +30,14 @@ mod names;
 pub mod narrow;
 mod narrow_annotations;
 mod part_texts;
+mod pointed;
 mod printers;
 mod printing;
 mod readers;
 mod reasons;
 mod refusals;
 mod reports;
+mod shown;
 mod slices;
 mod texts;
 mod version;

@@ -1,73 +1,81 @@
 // Made by tools/to_rust.py of crates/ixdtf_c/src/reports.rt. Do not edit.
 
-//! The report of an error: its message, the text, and marks under the part of the text that is wrong.
+//! The report of an error: its message, the text, marks under the part of the text that is wrong, and a hint.
 
+use crate::adding::add;
 use crate::explaining::Explanation;
+use crate::pointed::add_pointed;
 use crate::reasons::reason_by_number;
-use ixdtf::{LocatedError, Message, ParseError, PointedText};
-use core::fmt;
-use core::fmt::Write;
+use crate::shown::add_message;
+use ixdtf::{LocatedError, Message, ParseError, WrongPart};
+use core::str::from_utf8;
 
-/// The greatest length of a report in bytes. It is `IXDTF_REPORT_ROOM` of the C header.
-const ROOM: usize = 512;
-
-/// The bytes of a report that are written up to now.
-struct Report {
-    /// The first `length` bytes are the report.
-    bytes: [u8; ROOM],
-    /// The length in bytes.
-    length: usize,
+/// What is written in a report.
+#[derive(Clone, Copy)]
+struct Report<'a> {
+    /// What is wrong in the text.
+    message: Message<'a>,
+    /// The complete text that was refused.
+    text: &'a [u8],
+    /// The part of the text that is wrong.
+    part: WrongPart,
+    /// What to change in the text.
+    hint: Option<Message<'a>>,
 }
 
-impl Write for Report {
-    /// Adds a part. Returns an error if the report is then longer than `ROOM`.
-    fn write_str(&mut self, part: &str) -> fmt::Result {
-        let bytes = part.as_bytes();
-        let Some(left) = ROOM.checked_sub(self.length) else {
-            return Err(fmt::Error);
-        };
-        if left < bytes.len() {
-            return Err(fmt::Error);
-        }
-        let end = self.length + bytes.len();
-        self.bytes[self.length..end].copy_from_slice(bytes);
-        self.length = end;
-        Ok(())
-    }
-}
-
-/// Returns the report, or `None` if it is longer than `ROOM`.
-fn report_of(message: &Message<'_>, pointed: &PointedText<'_>) -> Option<Report> {
-    let mut report = Report {
-        bytes: [0; ROOM],
-        length: 0,
-    };
-    match write!(report, "{message}\n{pointed}") {
-        Ok(()) => Some(report),
-        Err(_) => None,
-    }
-}
-
-/// Writes a report to the first bytes of `out`, and its length to `count`. Returns 0.
+/// Returns the error that has the reason and the position of the explanation, or `None` if no reason has its number.
 ///
-/// Returns 102 if `out` is too short. Then `out` is unchanged, and `count` is the length.
-fn copy_report(report: &Report, out: &mut [u8], count: &mut usize) -> u32 {
-    *count = report.length;
-    if out.len() < report.length {
-        return 102;
+/// The message, the part and the hint do not depend on the field `error`.
+fn error_of(explanation: &Explanation) -> Option<LocatedError> {
+    match reason_by_number(explanation.reason) {
+        None => None,
+        Some(reason) => Some(LocatedError {
+            error: ParseError::InvalidEnd,
+            at: explanation.place,
+            reason,
+        }),
     }
-    out[..report.length].copy_from_slice(&report.bytes[..report.length]);
-    0
+}
+
+/// Returns the characters before the first byte that is not UTF-8.
+fn valid_front(bytes: &[u8]) -> &str {
+    match from_utf8(bytes) {
+        Ok(text) => text,
+        Err(error) => from_utf8(&bytes[..error.valid_up_to().min(bytes.len())]).unwrap_or(""),
+    }
+}
+
+/// Writes a report to the beginning of the array, as far as it fits. Returns the length of the report, also if it does not fit.
+fn add_report(out: &mut [u8], report: &Report<'_>) -> usize {
+    let newline = add_message(out, 0, &report.message);
+    let lines = add(out, newline, b"\n");
+    let end = add_pointed(out, lines, valid_front(report.text), report.part);
+    match &report.hint {
+        None => end,
+        Some(hint) => {
+            let words = add(out, end, b"\nhint: ");
+            add_message(out, words, hint)
+        }
+    }
+}
+
+/// Writes a hint to the beginning of the array, as far as it fits. Returns the length of the hint, which is 0 if there is none.
+fn add_hint(out: &mut [u8], hint: &Option<Message<'_>>) -> usize {
+    match hint {
+        None => 0,
+        Some(hint) => add_message(out, 0, hint),
+    }
 }
 
 /// Writes the report of an error to the first bytes of `out`, and its length to `count`. Returns 0.
 ///
-/// The report has three lines, and no newline at the end: the message of the error, the text, and marks under the part of the text
-/// that is wrong. Only the fields `reason` and `place` of the explanation are used. `text` must be the complete text that was
-/// refused. If the text has 16-bit code units, `text` must be this text, converted to UTF-8.
+/// The report has at least three lines, and no newline at the end: the message of the error, the text, and marks under the part of the
+/// text that is wrong. If there is a hint, the last line is `hint: ` and the hint. Only the fields `reason` and `place` of the explanation
+/// are used. `text` must be the complete text that was refused. If the text has 16-bit code units, `text` must be this text, converted to
+/// UTF-8.
 ///
 /// Returns 102 if `out` is too short. Then `out` is unchanged, and `count` is the length of the report. Returns 101 if the
-/// explanation has no reason, or if the report is longer than 512 bytes. Then `out` and `count` are unchanged.
+/// explanation has no reason. Then `out` and `count` are unchanged.
 #[unsafe(no_mangle)]
 pub unsafe extern "C" fn ixdtf_describe(
     explanation: &Explanation,
@@ -81,17 +89,47 @@ pub unsafe extern "C" fn ixdtf_describe(
     let text = unsafe { crate::slices::slice(text, text_length) };
     // SAFETY: the header requires this of the caller.
     let out = unsafe { crate::slices::slice_mut(out, out_length) };
-    let Some(reason) = reason_by_number(explanation.reason) else {
+    let Some(error) = error_of(explanation) else {
         return 101;
     };
-    // The message and the marks do not depend on the error, but on the reason and on the position.
-    let error = LocatedError {
-        error: ParseError::InvalidEnd,
-        at: explanation.place,
-        reason,
+    let report = Report {
+        message: error.message_in(text),
+        text,
+        part: error.part_in(text),
+        hint: error.hint_in(text),
     };
-    match report_of(&error.message_in(text), &error.in_bytes(text)) {
-        None => 101,
-        Some(report) => copy_report(&report, out, count),
+    *count = add_report(&mut [], &report);
+    if out.len() < *count {
+        return 102;
     }
+    let _end = add_report(out, &report);
+    0
+}
+
+/// Writes the hint about an error to the first bytes of `out`, and its length to `count`. Returns 0. If there is no hint, the length is 0.
+///
+/// The arguments, and what the function returns otherwise, are those of `ixdtf_describe`.
+#[unsafe(no_mangle)]
+pub unsafe extern "C" fn ixdtf_hint(
+    explanation: &Explanation,
+    text: *const u8,
+    text_length: usize,
+    out: *mut u8,
+    out_length: usize,
+    count: &mut usize,
+) -> u32 {
+    // SAFETY: the header requires this of the caller.
+    let text = unsafe { crate::slices::slice(text, text_length) };
+    // SAFETY: the header requires this of the caller.
+    let out = unsafe { crate::slices::slice_mut(out, out_length) };
+    let Some(error) = error_of(explanation) else {
+        return 101;
+    };
+    let hint = error.hint_in(text);
+    *count = add_hint(&mut [], &hint);
+    if out.len() < *count {
+        return 102;
+    }
+    let _end = add_hint(out, &hint);
+    0
 }

@@ -4,7 +4,7 @@ use super::wide::units_of;
 use crate::errors::Text;
 use crate::explaining::{Explanation, ixdtf_explain, ixdtf16_explain};
 use crate::reasons::ixdtf_reason_line;
-use crate::reports::ixdtf_describe;
+use crate::reports::{ixdtf_describe, ixdtf_hint};
 
 /// An explanation in which no field is 0.
 const EXPLANATION: Explanation = Explanation {
@@ -98,39 +98,89 @@ fn names_reasons(rt: HostRuntime) {
     }
 }
 
-/// A text that is refused, and its report.
-const REPORTS: [(&[u8], &[u8]); 3] = [
+/// A text that is refused, the first three lines of its report, and its hint, which is empty if there is none.
+const REPORTS: [(&[u8], &[u8], &[u8]); 4] = [
     (
         b"2024-13-01",
         b"the month is 13, and has to be 01 to 12\n2024-13-01\n     ^^",
+        b"",
     ),
     (
         b"2020-1\xE9-01",
         b"expected a digit of the month, which has two, found the byte 0xE9\n2020-1\n      ^",
+        b"",
     ),
     (
         b"",
         b"the text is empty; expected a year of four digits\n\n^",
+        b"",
+    ),
+    (
+        b"2024-3-02",
+        b"expected a digit of the month, which has two, found `-`\n2024-3-02\n      ^",
+        b"write the month as `03`",
     ),
 ];
 
+/// Before a hint, a report has these bytes.
+const BEFORE_HINT: &[u8] = b"\nhint: ";
+
+/// Returns whether an array has the three lines at its beginning, and then the line of the hint, if there is one.
+fn is_report(out: &[u8], lines: &[u8], hint: &[u8]) -> bool {
+    let (front, rest) = out.split_at(lines.len().min(out.len()));
+    if hint.is_empty() {
+        return front == lines && rest.is_empty();
+    }
+    let (middle, words) = rest.split_at(BEFORE_HINT.len().min(rest.len()));
+    front == lines && middle == BEFORE_HINT && words == hint
+}
+
+/// Returns the length of a report with these three lines and this hint.
+fn length_of(lines: &[u8], hint: &[u8]) -> usize {
+    if hint.is_empty() {
+        return lines.len().min(512);
+    }
+    lines.len().min(512) + BEFORE_HINT.len().min(512) + hint.len().min(512)
+}
+
 #[test]
 fn describes_errors(rt: HostRuntime) {
-    for (text, report) in REPORTS {
+    for (text, lines, hint) in REPORTS {
         let mut why = EXPLANATION;
-        let mut out = [0u8; 512];
+        let mut out = [0u8; 1024];
         let mut count = 0;
         assert!(rt; ixdtf_explain(1, text, &mut why) != 0);
-        let length = report.len().min(512);
+        let length = length_of(lines, hint).min(1024);
         let shorter = length.saturating_sub(1);
         assert_eq!(rt;
             ixdtf_describe(&why, text, &mut out[..shorter], &mut count),
             102
         );
-        assert_eq!(rt; (out[0], count), (0, report.len()));
+        assert_eq!(rt; (out[0], count), (0, length));
         assert_eq!(rt; ixdtf_describe(&why, text, &mut out, &mut count), 0);
-        assert_eq!(rt; &out[..length], report);
-        assert_eq!(rt; (out[511], count), (0, report.len()));
+        assert!(rt; is_report(&out[..length], lines, hint));
+        assert_eq!(rt; (out[1023], count), (0, length));
+    }
+}
+
+#[test]
+fn gives_hints(rt: HostRuntime) {
+    for (text, _, hint) in REPORTS {
+        let mut why = EXPLANATION;
+        let mut out = [7u8; 128];
+        let mut count = 7;
+        assert!(rt; ixdtf_explain(1, text, &mut why) != 0);
+        let length = hint.len().min(128);
+        assert_eq!(rt; ixdtf_hint(&why, text, &mut out, &mut count), 0);
+        assert_eq!(rt; &out[..length], hint);
+        assert_eq!(rt; (out[127], count), (7, length));
+        if length > 0 {
+            assert_eq!(rt;
+                ixdtf_hint(&why, text, &mut out[..length - 1], &mut count),
+                102
+            );
+            assert_eq!(rt; count, length);
+        }
     }
 }
 
@@ -142,6 +192,25 @@ fn describes_nothing_without_a_reason(rt: HostRuntime) {
         let mut out = [7u8; 8];
         let mut count = 7;
         assert_eq!(rt; ixdtf_describe(&why, b"2024", &mut out, &mut count), 101);
+        assert_eq!(rt; ixdtf_hint(&why, b"2024", &mut out, &mut count), 101);
         assert_eq!(rt; (out[0], count), (7, 7));
     }
+}
+
+/// The reason 24 is about a time that begins like a month and a day. Its message shows the text up to the position. So a report is long if
+/// the position is one that no reader returns with this reason.
+#[test]
+fn describes_positions_that_no_error_has(rt: HostRuntime) {
+    let mut why = EXPLANATION;
+    why.reason = 24;
+    why.place = 1000;
+    let text = [b'1'; 1000];
+    let mut out = [0u8; 1200];
+    let mut count = 0;
+    assert_eq!(rt;
+        ixdtf_describe(&why, &text, &mut out[..1024], &mut count),
+        102
+    );
+    assert!(rt; count > 1024);
+    assert_eq!(rt; ixdtf_describe(&why, &text, &mut out, &mut count), 0);
 }

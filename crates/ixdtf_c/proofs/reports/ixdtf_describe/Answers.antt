@@ -1,30 +1,30 @@
 use Rattle.ixdtf_c.proofs.reports.ixdtf_describe.Goals as goal
-use Rattle.std.proofs.Common.{◌≡◌, ◌∙◌, ℕ, List, take, length, min}
+use Rattle.std.proofs.Common.{◌≡◌, ◌∙◌, ℕ, List, length, min, Option, arith}
 use Rattle.ixdtf_grammar.specs.declared.{reason.Reason.Reason, part.WrongPart.WrongPart, message.Message.Message}
-use Rattle.ixdtf_grammar.specs.{Parts.{IsPart, extent_of}, Messages.IsMessage}
-use Rattle.ixdtf_c.specs.Reported.{Describes, WritesReport, report_text}
-use Rattle.ixdtf_c.proofs.{Reasoned.same_reason, Reporting.not_written}
+use Rattle.ixdtf_grammar.specs.{Parts.{IsPart, extent_of}, Messages.IsMessage, Hints.IsHint}
+use Rattle.ixdtf_c.specs.Reported.{Describes, Writes, report_text}
+use Rattle.ixdtf_c.proofs.{Reasoned.same_reason, Reporting.{too_short, written}}
 
 -- The report of a reason is that of each reason with the same number.
-describes : (reason other : Reason) (text : List ℕ) (place : ℕ) (old new : List ℕ) (count_old count_new number : ℕ) (message : Message) (part : WrongPart)
-    → reason ≡ other → IsMessage reason text (min place (length text)) message → IsPart (extent_of reason) text (min place (length text)) part
-    → WritesReport (report_text message part text) old new count_old count_new number → Describes other text place old new count_old count_new number
-describes reason other text place old new count_old count_new number message part same is_message is_part writes = rw (← same) (record {
+described : {reason other : Reason} {text old new : List ℕ} {at place count number : ℕ} (message : Message) (part : WrongPart) (hint : Option Message) → reason ≡ other → at ≡ place
+    → IsMessage reason text (min at (length text)) message → IsPart (extent_of reason) text (min at (length text)) part → IsHint reason text (min at (length text)) hint
+    → Writes (report_text message part hint text) old new count number → Describes other text place old new count number
+described message part hint same here is_message is_part is_hint writes = rw (← same, ← here) (record {
   message = message;
   part = part;
+  hint = hint;
   is_message = is_message;
   is_part = is_part;
+  is_hint = is_hint;
   writes = writes;
 })
 
-pub returns-in-None-clause-describes : goal.returns-in-None-clause-describes
-returns-in-None-clause-describes c reason is =
-    describes _ reason _ _ _ _ _ _ _ c.message_in.result c.in_bytes.result.part (same_reason _ _ (c.in-Some.ensures.some ∙ is)) c.message_in.ensures.message c.in_bytes.ensures.part
-    (not_written _ _ _)
+pub returns-then-out-count-clause-describes : goal.returns-then-out-count-clause-describes
+returns-then-out-count-clause-describes c reason is =
+    described c.message_in.result c.part_in.result c.hint_in.result (same_reason _ _ (c.in-Some.ensures.reason ∙ is)) c.in-Some.ensures.place c.message_in.ensures.message c.part_in.ensures.part c.hint_in.ensures.hint
+    (too_short c.add_report.ensures (omega (arith, c.if-out-count.true)))
 
-pub returns-in-Some-report_of-clause-describes : goal.returns-in-Some-report_of-clause-describes
-returns-in-Some-report_of-clause-describes c reason is =
-    let whole : take c.in-Some-report_of.report.length c.in-Some-report_of.report.bytes ≡ report_text c.message_in.result c.in_bytes.result.part c.args.text.now =
-    rw (← c.in_bytes.ensures.text) c.in-Some-report_of.ensures.text in
-    describes _ reason _ _ _ _ _ _ _ c.message_in.result c.in_bytes.result.part (same_reason _ _ (c.in-Some.ensures.some ∙ is)) c.message_in.ensures.message c.in_bytes.ensures.part
-    (rw (← whole) c.copy_report.ensures)
+pub returns-clause-describes : goal.returns-clause-describes
+returns-clause-describes c reason is =
+    described c.message_in.result c.part_in.result c.hint_in.result (same_reason _ _ (c.in-Some.ensures.reason ∙ is)) c.in-Some.ensures.place c.message_in.ensures.message c.part_in.ensures.part c.hint_in.ensures.hint
+    (written c.add_report.ensures c.add_report-end.ensures (omega (arith, c.if-out-count.false)) (omega arith))

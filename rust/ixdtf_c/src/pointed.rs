@@ -1,0 +1,96 @@
+// Made by tools/to_rust.py of crates/ixdtf_c/src/pointed.rt. Do not edit.
+
+//! Adds to a report the text that was refused, and marks under the part that is wrong.
+//!
+//! `Display` of `PointedText` writes the same bytes. But its contract does not say when it succeeds, and these functions always do.
+
+use crate::adding::add;
+use ixdtf::WrongPart;
+
+/// The greatest number of characters that are shown before the marks.
+const BEFORE_PLACE: usize = 48;
+
+/// The greatest number of characters that are shown from the first mark on, and the greatest number of marks.
+const FROM_PLACE: usize = 24;
+
+/// Adds the text, and under it a mark for each byte of the part.
+pub fn add_pointed(out: &mut [u8], at: usize, text: &str, part: WrongPart) -> usize {
+    let column = column_of(text, part.begin);
+    let newline = add_line(out, at, text, column);
+    let spaces = add(out, newline, b"\n");
+    let marks = add_repeated(out, spaces, b' ', indent_of(column));
+    add_repeated(out, marks, b'^', marks_of(part))
+}
+
+/// Returns the number of complete characters in the first `at` bytes of the text.
+fn column_of(text: &str, at: usize) -> usize {
+    let mut column = 0;
+    let mut left = at;
+    for character in text.chars() {
+        let length = character.len_utf8();
+        if left < length {
+            return column;
+        }
+        left -= length;
+        column += 1;
+    }
+    column
+}
+
+/// Returns the number of columns before the first mark.
+fn indent_of(column: usize) -> usize {
+    if BEFORE_PLACE < column {
+        BEFORE_PLACE + 2
+    } else {
+        column
+    }
+}
+
+/// Returns the number of marks under a part.
+fn marks_of(part: WrongPart) -> usize {
+    if part.end <= part.begin {
+        return 1;
+    }
+    FROM_PLACE.min(part.end - part.begin)
+}
+
+/// Returns `..` if something is cut, and otherwise nothing.
+fn cut_mark(is_cut: bool) -> &'static [u8] {
+    if is_cut { b".." } else { b"" }
+}
+
+/// Adds the line of the text: at most 48 characters before the column, and at most 24 characters from the column on.
+fn add_line(out: &mut [u8], at: usize, text: &str, column: usize) -> usize {
+    let last = column + FROM_PLACE;
+    let is_longer = last < text.chars().count();
+    let front = add(out, at, cut_mark(BEFORE_PLACE < column));
+    let behind = add_characters(out, front, text, column.saturating_sub(BEFORE_PLACE), last);
+    add(out, behind, cut_mark(is_longer))
+}
+
+/// Adds the characters from index `first` up to, but not including, index `last`.
+fn add_characters(out: &mut [u8], at: usize, text: &str, first: usize, last: usize) -> usize {
+    let mut end = at;
+    for character in text.chars().take(last).skip(first) {
+        end = add_character(out, end, character);
+    }
+    end
+}
+
+/// Adds the character, or `.` for a control character.
+fn add_character(out: &mut [u8], at: usize, character: char) -> usize {
+    if character.is_control() {
+        return add(out, at, b".");
+    }
+    let mut bytes = [0; 4];
+    add(out, at, character.encode_utf8(&mut bytes).as_bytes())
+}
+
+/// Adds a byte `count` times.
+fn add_repeated(out: &mut [u8], at: usize, byte: u8, count: usize) -> usize {
+    let mut end = at;
+    for _ in 0..count {
+        end = add(out, end, &[byte]);
+    }
+    end
+}
