@@ -67,6 +67,14 @@ def refusal(call, *arguments, **keywords):
     raise AssertionError(f"expected IxdtfError, but {arguments} is accepted")
 
 
+def three_lines(error):
+    """The first three lines of the report of an error. Only the hint is after them."""
+    lines = str(error).split("\n")
+    if lines[3:] != ([] if error.hint is None else ["hint: " + error.hint]):
+        raise AssertionError(f"the report does not end with the hint {error.hint!r}: {lines}")
+    return lines[:3]
+
+
 def reason_of(row):
     """Returns the name of the reason of a row of tools/places.tsv."""
     line, _, word = row["line"].partition(" ")
@@ -91,8 +99,8 @@ class Rows(unittest.TestCase):
         self.assertEqual((error.reason, error.start, error.end), (reason_of(row), int(row["begin"]), int(row["end"])))
         message = row["reason"].replace("the code unit 0x", "U+")
         self.assertEqual(error.message, message)
-        lines = str(error).split("\n")
-        self.assertEqual((len(lines), lines[0], lines[2].lstrip(" ")), (3, message, "^" * min(24, max(1, error.end - error.start))))
+        lines = three_lines(error)
+        self.assertEqual((lines[0], lines[2].lstrip(" ")), (message, "^" * min(24, max(1, error.end - error.start))))
         if error.start <= 48:
             self.assertEqual(len(lines[2]) - len(lines[2].lstrip(" ")), error.start)
 
@@ -145,17 +153,18 @@ class Texts(unittest.TestCase):
         for front in ("", "\u00e9", "\u20ac", "\U0001f600", "\ud800"):
             error = refusal(ixdtf.parse, f"2024-03-02[a={front}]" if front else "2024-03-02[a=]")
             self.assertEqual((error.position, error.start, error.end), (13, 13, 14))
-            self.assertEqual(str(error).splitlines()[-1], " " * 13 + "^")
+            self.assertEqual(three_lines(error)[2], " " * 13 + "^")
             self.assertEqual(error.message.rpartition(" ")[2], f"U+{ord(front):04X}" if front else "`]`")
         error = refusal(ixdtf.parse_duration, "P1D\u00e9")
         self.assertEqual((error.position, error.start, error.end), (3, 3, 4))
         error = refusal(ixdtf.parse_duration, "P1D\u00e9".encode("utf-8"))
-        self.assertEqual((error.position, error.start, error.end, str(error)), (3, 3, 4, "expected a number, `T` or the end after the unit, found U+00E9\nP1D\u00e9\n   ^"))
+        self.assertEqual((error.position, error.start, error.end), (3, 3, 4))
+        self.assertEqual(three_lines(error), ["expected a number, `T` or the end after the unit, found U+00E9", "P1D\u00e9", "   ^"])
 
     def test_positions_of_bytes(self):
         error = refusal(ixdtf.parse, b"2024-03-02[a=\xff]")
         self.assertEqual((error.position, error.text), (13, b"2024-03-02[a=\xff]"))
-        self.assertEqual(str(error), "expected a letter or digit of the annotation's value, found the byte 0xFF\n2024-03-02[a=\n             ^")
+        self.assertEqual(three_lines(error), ["expected a letter or digit of the annotation's value, found the byte 0xFF", "2024-03-02[a=", "             ^"])
 
     def test_each_width_of_a_str(self):
         for character in ("\u00e9", "\u20ac", "\U0001f600"):
@@ -236,7 +245,7 @@ class Texts(unittest.TestCase):
                 error = refusal(ixdtf.parse, front + text)
                 self.assertEqual((error.position, error.text), (len(front), front + text))
                 shown = text if text == "\U0001f600" else "\ufffd" * len(text)
-                self.assertEqual(str(error).split("\n")[1:], [front + shown, " " * len(front) + "^"])
+                self.assertEqual(three_lines(error)[1:], [front + shown, " " * len(front) + "^"])
                 self.assertEqual(error.message.rpartition(" ")[2], f"U+{ord(text[0]):04X}")
                 self.assertEqual(pickle.loads(pickle.dumps(error)).text, front + text)
 
@@ -252,7 +261,7 @@ class Texts(unittest.TestCase):
         self.assertEqual(len(ixdtf.parse(long).zone.name), 10_000_000)
         error = refusal(ixdtf.parse, long[:-1] + "\u00e9")
         self.assertEqual((error.position, error.start, error.end), (len(long) - 1, len(long) - 1, len(long)))
-        self.assertEqual(str(error).split("\n")[1:], [".." + "a" * 48 + "\u00e9", " " * 50 + "^"])
+        self.assertEqual(three_lines(error)[1:], [".." + "a" * 48 + "\u00e9", " " * 50 + "^"])
         self.assertEqual(len(ixdtf.canonical(ixdtf.parse(long))), len(long))
         self.assertTrue(ixdtf.is_valid("P" + "0" * 10_000_000 + "1D", "duration"))
 
@@ -650,18 +659,32 @@ class Calls(unittest.TestCase):
         self.assertEqual((error.reason, error.start, error.end), ("hour_digit", 12, 13))
         self.assertEqual(error.message, "expected a digit of the hour, which has two, found `:`")
         self.assertEqual(error.crate_text, "Invalid character while parsing hour value.")
-        self.assertEqual(str(error), f"{error.message}\n2024-03-02T8:48\n            ^")
+        self.assertEqual(three_lines(error), [error.message, "2024-03-02T8:48", "            ^"])
         again = pickle.loads(pickle.dumps(error))
         self.assertEqual((str(again), again.__dict__), (str(error), error.__dict__))
         error = refusal(ixdtf.parse, "2024-")
         self.assertEqual((error.name, error.within, error.crate_text), ("ABRUPT_END", "digit", "Parsing ended abruptly while parsing digit"))
-        self.assertEqual((error.start, error.end, str(error)), (5, 5, "the text ends in the month; expected two digits\n2024-\n     ^"))
+        self.assertEqual((error.start, error.end), (5, 5))
+        self.assertEqual(three_lines(error), ["the text ends in the month; expected two digits", "2024-", "     ^"])
+
+    def test_hints(self):
+        """The hint is an attribute, and the last line of the report. There are texts without a hint."""
+        for text in ("2024-3-02", b"2024-3-02", bytearray(b"2024-3-02"), "2024-3-02\u00e9"):
+            error = refusal(ixdtf.parse, text)
+            self.assertEqual(error.hint, "write the month as `03`")
+            self.assertEqual(str(error).split("\n")[3:], ["hint: write the month as `03`"])
+            again = pickle.loads(pickle.dumps(error))
+            self.assertEqual((str(again), again.hint), (str(error), error.hint))
+        error = refusal(ixdtf.parse, "2024-13-01")
+        self.assertIsNone(error.hint)
+        self.assertEqual(str(error), "the month is 13, and has to be 01 to 12\n2024-13-01\n     ^^")
 
     def test_explained_handlers(self):
         """The error of a refused reply, and the error of a reader that would refuse an annotation which the handler drops."""
         error = refusal(ixdtf.parse, "2024-03-02[a=b][!x=y]", handler=lambda it: it)
         self.assertEqual((error.reason, error.start, error.end), ("unrecognized_critical", 15, 21))
-        self.assertEqual(str(error), "the annotation's key is not known; without `!`, the annotation would be ignored\n2024-03-02[a=b][!x=y]\n               ^^^^^^")
+        message = "the annotation's key is not known; without `!`, the annotation would be ignored"
+        self.assertEqual(three_lines(error), [message, "2024-03-02[a=b][!x=y]", "               ^^^^^^"])
         error = refusal(ixdtf.parse, "2024-03-02[u-ca=a][!u-ca=b]", handler=lambda it: it)
         self.assertEqual((error.reason, error.start, error.end), ("critical_duplicate_calendar", 18, 27))
         error = refusal(ixdtf.parse, "2024-03-02[!x=y]-", handler=lambda it: None)

@@ -17,7 +17,8 @@ def describe(text: Union[str, bytes]) -> str:
     except IxdtfError as error:
         where: int = error.position
         part: Union[str, bytes] = error.text[error.start : error.end]
-        return f"{error.name} at {where}, while parsing {error.within}: {error.reason}, {error.message}, {error.crate_text}, {part!r}"
+        hint: Optional[str] = error.hint
+        return f"{error.name} at {where}, while parsing {error.within}: {error.reason}, {error.message}, {hint}, {error.crate_text}, {part!r}"
     date: Optional[Date] = record.date
     zone: Optional[Zone] = record.zone
     name = zone.name if zone is not None else None

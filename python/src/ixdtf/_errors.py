@@ -1,5 +1,5 @@
 """The exception IxdtfError."""
-from typing import Union
+from typing import Optional, Union
 
 
 class IxdtfError(ValueError):
@@ -7,6 +7,7 @@ class IxdtfError(ValueError):
 
     text        the text, as str or bytes
     message     says what is wrong in the text, and what was expected
+    hint        says what to change in the text, or None if there is no hint
     reason      the name of the reason, such as "month_range"
     start, end  the part of the text that is wrong, text[start:end], in code points (of a str) or bytes (of bytes)
     position    the number of code points (of a str) or bytes (of bytes) before the error
@@ -14,10 +15,11 @@ class IxdtfError(ValueError):
     crate_text  the text of the error in the Rust crate ixdtf 0.6.7
     within      what was being parsed, such as "digit", if the name of the error is "ABRUPT_END"; otherwise ""
 
-    str() returns three lines: the message, the text, and marks under the part that is wrong.
+    str() returns three lines: the message, the text, and marks under the part that is wrong. If there is a hint, it is the fourth line.
     """
 
     __module__ = "ixdtf"
+    hint: Optional[str]
 
     def __init__(
         self, text: Union[str, bytes], name: str, crate_text: str, reason: str, position: int, start: int, end: int, report: str, within: str
@@ -29,7 +31,10 @@ class IxdtfError(ValueError):
         self.position = position
         self.start = start
         self.end = end
-        self.message = report.partition("\n")[0]
+        # A newline of the text is shown as ".", so the report has no other newlines than those between its lines.
+        lines = report.split("\n")
+        self.message = lines[0]
+        self.hint = lines[3].removeprefix("hint: ") if len(lines) > 3 else None
         self.within = within
         self._report = report
         super().__init__(text, name, crate_text, reason, position, start, end, report, within)

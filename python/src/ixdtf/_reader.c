@@ -203,7 +203,7 @@ static int replace_surrogates(uint8_t *at, Py_ssize_t length) {
     return found;
 }
 
-/* Returns the report of an error, as a str: the message, the text, and the marks. */
+/* Returns the report of an error, as a str: the message, the text, the marks, and the hint, if there is one. */
 static PyObject *report_of(const text_bytes *bytes, const ixdtf_explanation *why) {
     uint8_t report[IXDTF_REPORT_ROOM];
     size_t count = 0;
