@@ -34,6 +34,9 @@ fn show(error: LocatedError, text: &str) {
     let _ = write!(Nowhere, "{error}");
     let _ = write!(Nowhere, "{}", error.in_text(text));
     let _ = write!(Nowhere, "{}", error.message_in(text.as_bytes()));
+    if let Some(hint) = error.hint_in(text.as_bytes()) {
+        let _ = write!(Nowhere, "{hint}");
+    }
     black_box(error.part_in(text.as_bytes()));
 }
 

@@ -1023,8 +1023,15 @@ def hints_of(name: str, found: Refusal, units: Sequence[int], wide: bool = False
     line, way, begin, end, follow = found.reason
     texts = reasons.texts_of(line, follow, begin)
     ends_here = texts.other is not None and texts.end is None
-    text = ''.join(map(chr, units))
+    text = bytes_of(units, wide).decode('latin-1')
     return hints.hints(hints.Case(name, line, way, text, found.fault.place, ends_here, ends_here and '`[`' in texts.other))
+
+
+def bytes_of(units: Sequence[int], wide: bool) -> bytes:
+    """The bytes of a text, which is converted to UTF-8 if its code units have 16 bits. U+FFFD stands for a lone surrogate."""
+    if not wide:
+        return bytes(units)
+    return b''.join(it.to_bytes(2, 'little') for it in units).decode('utf-16-le', 'replace').encode()
 
 
 def report(name: str, found: Refusal, units: Sequence[int], wide: bool = False, strict: bool = False) -> list[str]:

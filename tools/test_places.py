@@ -257,22 +257,21 @@ $ parse 2024
 the text ends after the year; expected `-` and the month
 2024
     ^
-hint: write it like 2024-03-02, 2024-03-02T08:48 or 2024-03-02T08:48:00-05:00
 $ parse 2024-3-2
 expected a digit of the month, which has two, found `-`
 2024-3-2
       ^
-hint: write the month as `03`, and the day as `02`
+hint: write the month as `03`
 $ parse 02/03/2024
 expected a digit of the year, which has four, found `/`
 02/03/2024
   ^
-hint: write a date as year, month and day, like 2024-03-02
+hint: write the year first, with four digits, then `-` and the month
 $ parse 1709369280
 the month is 36, and has to be 01 to 12
 1709369280
     ^^
-hint: a Unix time is not read; write it as a date and a time
+hint: a Unix time is not read; convert it first
 $ parse 2023-02-29
 the day is 29, and has to be 01 to 28
 2023-02-29
@@ -281,12 +280,11 @@ $ parse 2024-W09-6
 expected a digit of the month, which has two, found `W`
 2024-W09-6
      ^
-hint: a week is not read; write the month and the day
+hint: a week is not read; write the month instead
 $ parse 202403-02
 found `-` before the day, but none before the month
 202403-02
       ^
-hint: write it like 2024-03-02, 2024-03-02T08:48 or 2024-03-02T08:48:00-05:00
 $ parse 2024-03-02T24:00
 the hour is 24, and has to be 00 to 23
 2024-03-02T24:00
@@ -334,7 +332,6 @@ $ parse 2024-03-02T08:48:00-05:00[America/New_York][u-ca=hebrew][key=a_b]
 expected `]` or more of the annotation's value, found `_`
 ..48:00-05:00[America/New_York][u-ca=hebrew][key=a_b]
                                                   ^
-hint: an annotation's value has only letters, digits and single hyphens
 $ parse 2024-03-02[!knort=blue]
 the annotation's key is not known; without `!`, the annotation would be ignored
 2024-03-02[!knort=blue]
@@ -376,82 +373,109 @@ a part of the time zone's name does not begin with a letter, and has to
                          ^^^^^^^^^^^^^^^^^^^^^^^^
 """
 
-# hints that are examples
-DATES, DURATIONS = 'write it like 2024-03-02, 2024-03-02T08:48 or 2024-03-02T08:48:00-05:00', 'write it like P1DT2H30M or -PT0.5S'
-
 # lines for the program, and their hints
 HINTS = {
-    'parse 2024-3-2': 'write the month as `03`, and the day as `02`', 'parse 2024-3-12': 'write the month as `03`', 'parse 2024-03-2T08:48': 'write the day as `02`', 'month-day 3-02': 'write the month as `03`', 'month-day 3-2': 'write the month as `03`, and the day as `02`',
-    'parse 2024-03-02T8:48': 'write the hour as `08`', 'parse 2024-03-02T08:48:5Z': 'write the second as `05`',
+    'parse 2024-3-2': 'write the month as `03`', 'parse 2024-03-2T08:48': 'write the day as `02`', 'month-day 3-02': 'write the month as `03`',
+    'month-day 03-2[a=b]': 'write the day as `02`', 'rfc3339 2024-03-2T08:48:00Z': 'write the day as `02`',
+    'parse 2024-03-02T8:48': 'write the hour as `08`', 'rfc3339 2024-03-02T8:48:00Z': 'write the hour as `08`', 'time 8.5': 'write the hour as `08`',
+    'parse 2024-03-02T08:4Z': 'write the minute as `04`', 'parse 2024-03-02T08:48:5Z': 'write the second as `05`',
     'offset -5:00': "write the offset's hour as `05`", 'rfc3339 2024-03-02T08:48:00+5:00': "write the offset's hour as `05`",
+    'parse 2024-03-02[+05:3]': "write the offset's minute as `03`", 'offset +05:30:5.5': "write the offset's second as `05`",
     'parse 2024-03-02T24': 'the end of a day is 00:00 of the next day', 'rfc3339 2024-03-02T24:00:00Z': 'the end of a day is 00:00 of the next day',
-    'parse 2024/03/02': 'write a date as year, month and day, like 2024-03-02', 'year-month 03/2024': 'write a year and a month like 2024-03',
-    'rfc3339 02.03.2024': 'write a date as year, month and day, like 2024-03-02T08:48:00Z',
-    'parse 1709369280.25': 'a Unix time is not read; write it as a date and a time',
-    'rfc3339 1709369280123': 'a Unix time is not read; write it as a date and a time',
-    'time 14:58\t': 'remove the tab at the end', 'parse 2024-03-02\r': 'remove the carriage return at the end',
-    'duration P1D ': 'remove the space at the end', 'parse 2024-03-02 ': 'remove the space at the end',
+    'time 2400': 'the end of a day is 00:00 of the next day',
+    'parse 02/03/2024': 'write the year first, with four digits, then `-` and the month',
+    'year-month 03/2024': 'write the year first, with four digits, then `-` and the month',
+    'rfc3339 02.03.2024': 'write the year first, with four digits, then `-` and the month',
+    'parse 3/2/24 8:48': 'write the year first, with four digits, then `-` and the month',
+    'parse 02-Mar-24': 'write the year first, with four digits, then `-` and the month',
+    'parse 2 Mar 2024': 'write the year first, with four digits, then `-` and the month',
+    'rfc3339 Sat, 02 Mar 2024': 'write the year first, with four digits, then `-` and the month',
+    'parse Mar 2, 2024': 'write the year first, with four digits, then `-` and the month',
+    'parse 0044-03-15 BC': 'write a year BC with a sign and six digits, like -000043 for 44 BC',
+    'duration 1 day 02:03:04': 'a duration begins with `P`, like P1DT2H30M',
+    'rfc3339 2024-03-02T08:48:30+01:00[Europe/Paris]': 'RFC 3339 has no brackets; remove them, or read the text by RFC 9557',
+    'rfc3339 2024-03-02T08:48:30Z[UTC]': 'RFC 3339 has no brackets; remove them, or read the text by RFC 9557',
+    'parse 2024/03/02': 'write `-` instead', 'parse 2024-03.02': 'write `-` instead', 'month-day 3/02': '', 'month-day 03/02': 'write `-` instead',
+    'rfc3339 2024/03/02': 'write `-` instead', 'rfc3339 2024-03/02': 'write `-` instead', 'year-month 2024/03': 'write `-` instead',
+    'parse 2024\u201303\u201302': 'write `-` instead', 'rfc3339 2024-03-02T08:48:00\u221205:00': 'write `-` instead',
+    'offset \u201005:00': 'write `-` instead', 'zone \u221205:00': 'write `-` instead', 'month-day -\u201003-02': 'write `-` instead',
+    'parse 1709369280.25': 'a Unix time is not read; convert it first', 'rfc3339 1709369280123': 'a Unix time is not read; convert it first',
+    'parse 1709369280000000': 'a Unix time is not read; convert it first', 'parse 1709369280000000000': 'a Unix time is not read; convert it first',
+    'parse 1702302024': 'a Unix time is not read; convert it first', 'parse 1712012812': 'a Unix time is not read; convert it first',
+    'year-month 1709369280': 'a Unix time is not read; convert it first',
+    'time 14:58\t': 'remove the white space at the end', 'parse 2024-03-02\r': 'remove the white space at the end',
+    'duration P1D ': 'remove the white space at the end', 'parse 2024-03-02 ': 'remove the white space at the end',
+    'zone UTC \t': 'remove the white space at the end', 'zone +05:30 ': 'remove the white space at the end',
+    'rfc3339 2024-03-02T08:48:00Z ': 'remove the white space at the end', 'parse 2024-03-02[UTC] ': 'remove the white space at the end',
+    'iana  UTC': 'remove the white space at the start', 'parse \t2024-03-02': 'remove the white space at the start',
+    'rfc3339  2024-03-02T08:48:00Z': 'remove the white space at the start', 'offset  +05:00': 'remove the white space at the start',
     'parse 2024-03-02T08:48 +01': 'remove the space before `+`', 'rfc3339 2024-03-02T08:48:00 Z': 'remove the space before `Z`',
+    'parse 2024-03-02 08:48:00 +0000 UTC': 'remove the space before `+`', 'parse 2024-03-02T08:48 -1': 'remove the space before `-`',
     'parse 2024-03-02 [UTC]': 'remove the space before `[`', 'parse 2024-03-02T08:48Z [UTC]': 'remove the space before `[`',
-    'iana  UTC': 'remove the space at the start', 'parse 2024-03-02T08:48GMT[UTC]': 'write `Z` for GMT',
-    'parse 2024W096': 'a week is not read; write the month and the day',
-    'parse 2024-062': 'a day of the year is not read; write the month and the day',
-    'parse 2024-366T12': 'a day of the year is not read; write the month and the day',
-    'rfc3339 2024-062T08:48:00Z': 'a day of the year is not read; write the month and the day',
+    'parse 2024-03-02T08:48-05:00 [UTC]': 'remove the space before `[`', 'parse 2024-03-02[UTC] [a=b]': 'remove the space before `[`',
+    'parse 2024-03-02T08:48 [UTC]': 'remove the space before `[`',
+    'parse 2024-03-02 08:48 UTC': 'write `Z` for UTC', 'parse 2024-03-02T08:48GMT[UTC]': 'write `Z` for GMT',
+    'parse 2024-03-02 08:48:00 CET': 'write an offset such as -05:00 instead of the abbreviation',
+    'rfc3339 2024-03-02T08:48:00.5AEDT': 'write an offset such as -05:00 instead of the abbreviation',
+    'parse 2024W096': 'a week is not read; write the month instead', 'parse 2024-W09-6': 'a week is not read; write the month instead',
+    'year-month 2024-w09': 'a week is not read; write the month instead', 'rfc3339 2024W09': 'a week is not read; write the month instead',
+    'parse 2024-062': 'a day of the year is not read; write the month instead',
+    'parse 2024-366T12': 'a day of the year is not read; write the month instead',
+    'rfc3339 2024-062T08:48:00Z': 'a day of the year is not read; write the month instead',
+    'parse 2024062': 'a day of the year is not read; write the month instead',
     'parse 2024-03-02[u-CA=hebrew]': "write an annotation's key in lower-case letters",
+    'parse 2024-03-02[U-CA=hebrew]': "write an annotation's key in lower-case letters",
     'parse 2024-03-02[UTC][U-CA=hebrew]': "write an annotation's key in lower-case letters",
+    'parse 2024-03-02[UTC][!Knort=blue]': "write an annotation's key in lower-case letters",
     'parse 2024-03-02T08:48.5': 'only the second has a fraction', 'offset +05,5': 'only the second has a fraction',
+    'rfc3339 2024-03-02T08.5': 'only the second has a fraction',
+    'duration P1.5D': 'only hours, minutes and seconds have a fraction, like PT0.5H',
+    'duration P1D2H': 'write `T` before hours, minutes and seconds',
     'duration P2D5M': '`M` before `T` is months; write `T` before minutes',
     'duration PT1D': 'write years, months, weeks and days before `T`',
+    'parse 2024-03-02Z': 'an offset needs a time before it',
     'parse 2024-03-02+01:00': 'an offset needs a time before it', 'rfc3339 2024-03-02Z': 'an offset needs a time before it',
     'parse 2024-03-02 08:48 PM': 'write the hour as 00 to 23, without AM or PM',
     'parse 2024-03-02T08:48:00am': 'write the hour as 00 to 23, without AM or PM',
-    'parse 3/2/24 8:48': 'write a date as year, month and day, like 2024-03-02T08:48',
-    'parse 1709369280000000': 'a Unix time is not read; write it as a date and a time',
-    'parse 1709369280000000000': 'a Unix time is not read; write it as a date and a time',
-    'parse 2024-03-02 08:48:00 CET': 'write an offset such as -05:00 instead of CET',
+    'time 8:48 AM': 'write the hour as 00 to 23, without AM or PM', 'parse 2024-03-02 8:48 pm': 'write the hour as 00 to 23, without AM or PM',
     'parse 20240302084800.5': 'write `T` before the time', 'parse 2024-03-0208:48': 'write `T` before the time',
+    'parse 202403022359': 'write `T` before the time', 'parse 2024030208:48:00Z': 'write `T` before the time',
     'parse 2024-03-02[=hebrew]': 'an annotation has a key and a value, like u-ca=hebrew',
     'parse 2024-03-02[UTC][!=x]': 'an annotation has a key and a value, like u-ca=hebrew',
     'parse 2024-03-02[UTC][hebrew]': 'an annotation has a key and a value, like u-ca=hebrew',
-    'parse 2024-03-02[u-ca hebrew]': "write `=` after an annotation's key, or `_` in a time zone's name",
-    'parse 2024-03-02[UTC][u.ca=hebrew]': "an annotation's key has only a to z, 0 to 9, `-` and `_`",
-    'parse 2024-03-02[u-ca=a--b]': "an annotation's value has only letters, digits and single hyphens",
-    'time 2024-03-02T08:48': 'a date is not read before the time', 'time 8:48 AM': 'write the hour as 00 to 23, without AM or PM',
-    'parse 2024-03-02 8:48 pm': 'write the hour as 00 to 23, without AM or PM',
-    'parse 2024-03-02T08:48 +1': "remove the space before `+`, and write the offset's hour as `01`",
+    'parse 2024-03-02[u-ca hebrew]': "write `=` after the annotation's key",
+    'parse 2024-03-02[UTC][u-ca hebrew]': "write `=` after the annotation's key",
+    'parse 2024-03-02[America/New York]': "a time zone's name has `_` instead of a space",
+    'iana America/New York': "a time zone's name has `_` instead of a space",
+    'iana Asia/S\u00e3o': "a time zone's name has no letters but A to Z and a to z",
+    'iana \u00c5land': "a time zone's name has no letters but A to Z and a to z",
+    'parse 2024-03-02[Asia/\u00d6]': "a time zone's name has no letters but A to Z and a to z",
+    'time 2024-03-02T08:48': 'a date is not read before the time', 'time 1999-12-31 08:48': 'a date is not read before the time',
+    'time 2400-12-31': 'a date is not read before the time',
     'parse 2024-03-02[!knort=blue]': 'remove `!` if the annotation may be ignored',
-    'parse 2024062': 'a day of the year is not read; write the month and the day',
-    'parse 2024-03-02 08:48:00 +0000 UTC': 'remove the space before `+`, and what stands after the offset',
     'parse PT1H30M': 'a duration is no date; read it as a duration', 'rfc3339 p1D': 'a duration is no date; read it as a duration',
-    'parse 08:48:00': 'a time needs a date before it, like 2024-03-02T08:48:00-05:00',
-    'rfc9557 T08:48:00Z': 'a time needs a date before it, like 2024-03-02T08:48:00-05:00',
+    'parse 08:48:00': 'a time is no date; read it as a time', 'rfc9557 T08:48:00Z': 'a time is no date; read it as a time',
+    'rfc3339 08:48:00Z': 'a time is no date; read it as a time', 'year-month 08:48': 'a time is no date; read it as a time',
     'parse 12024-03-02': 'write a year after 9999 with a sign and six digits, like +012024',
     'parse +2024-03-02': 'write a year with a sign like +012024', 'parse +20': 'write a year with a sign like +012024',
     'rfc3339 12024-03-02T08:48:00Z': 'a year is 0000 to 9999 here, without a sign',
     'rfc9557 -000043-03-15T08:48:00Z': 'a year is 0000 to 9999 here, without a sign',
-    'parse 0044-03-15 BC': 'write the year 44 BC as -000043', 'parse 00010315 BC': 'write the year 1 BC as 0000',
-    'parse 2024-03-02[America/New York]': "a time zone's name has `_` instead of a space",
-    'iana America/New York': "a time zone's name has `_` instead of a space",
+    'duration P-1D': 'a sign can only stand before `P`',
     'duration PT-1H': 'a sign can only stand before `P`', 'duration P1D+1D': 'a sign can only stand before `P`',
     'rfc9557 1840-01-01T08:48:30-00:01:15[Europe/London]': 'an offset has no seconds here',
     'parse 2024-03-02T08:48:00Z/PT1H': 'an interval is not read; read the texts before and after the `/`',
     'parse 2024-03-02/2024-03-05': 'an interval is not read; read the texts before and after the `/`',
-    'parse 2024\u201303\u201302': 'write `-` instead', 'rfc3339 2024-03-02T08:48:00\u221205:00': 'write `-` instead',
-    'iana Asia/S\u00e3o': "a time zone's name has no letters but A to Z and a to z",
-    # texts of which nothing more is known: the hint has examples
-    'parse 2024-0-2': DATES, 'parse 2024-3/2': DATES, 'parse 2024/x': DATES, 'parse 2024-03-02  [UTC]': DATES, 'parse 2024-Wed': DATES,
-    'parse 1909369280': DATES, 'parse 170936928': DATES, 'parse 2024-03-02\tx': DATES, 'parse 2024-03-02Zulu': DATES,
-    'parse 2024-03-02/x': DATES, 'parse 240302084800Z': DATES, 'parse 2460372.5': DATES, 'parse 2024-0622': DATES, 'parse PX': DATES, 'parse 0000-03-15 BC': DATES, 'parse Mar  2 08:48:00': DATES, 'duration P1.D': DURATIONS,
-    'duration 1h30m': DURATIONS, 'rfc3339 2024-03-02 08:48:00,123': 'write it like 2024-03-02T08:48:00-05:00 or 2024-03-02T13:48:00.25Z',
-    'rfc9557 2024-03-02': 'write it like 2024-03-02T08:48:00-05:00[America/New_York]', 'year-month 08:48': 'write it like 2024-03',
-    'month-day x': 'write it like 03-02 or --03-02', 'time ': 'write it like 08:48 or T08:48:00.25', 'offset 05:00': 'write it like -05:00',
-    'zone 1': 'write it like America/New_York or -05:00', 'iana ': 'write it like America/New_York',
+    'duration P1D/2024-03-05': 'an interval is not read; read the texts before and after the `/`',
     # texts without a hint, each of which is nearly one of those above
-    'parse 2024-03-02T24:30': '', 'parse 2024-03-02T08:48 Zulu': '',
-    'parse 2024-03-02T08:48 UTC+1': '', 'parse 2024-03-02[UTC][u-CA]': "an annotation's key has only a to z, 0 to 9, `-` and `_`", 'parse 2024-03-02T08:48.': '', 'duration P1DX': '',
-    'parse 2024-03-02T08:48 PMx': '', 'parse 2024-03-02[America/New  York]': '',
-    'parse 2024-03-02T08:48:00Z\u2212': '',
+    'parse 2024-0-2': '', 'parse 2024-3/2': '', 'parse 2024/x': '', 'parse 2024-03-02  [UTC]': '', 'parse 2024-Wed': '',
+    'parse 1909369280': '', 'parse 170936928': '', 'parse 2024-03-02\tx': '', 'parse 2024-03-02Zulu': '', 'parse 24030': '',
+    'parse 2024-03-02/x': '', 'parse 240302084800Z': '', 'parse 2460372.5': '', 'parse 2024-0622': '',
+    'duration P1.D': '', 'rfc3339 2024-03-02 08:48:00,123': '', 'rfc9557 2024-03-02': '', 'month-day x': '', 'time ': '',
+    'offset 05:00': '', 'zone 1': '', 'iana ': '', 'parse 20243-02': '', 'parse 2024-03-02T24:30': '', 'parse 2024-03-02T08:48 Zulu': '',
+    'parse 2024-03-02T08:48 UTC+1': '', 'parse 2024-03-02[UTC][u-CA]': '', 'parse 2024-03-02T08:48.': '', 'duration P1DX': '',
+    'parse 2024-03-02T08:48 PMx': '', 'parse 2024-03-02[America/New  York]': '', 'parse 2024-03-02T08:48:00Z\u2212': '', 'offset +05:00 [UTC]': '',
+    'rfc3339 2024-03-02T08:48:00Z [UTC]': '', 'parse 2024-03-02[UTC ': '', 'parse 2024-03-021234567': '', 'parse 2024-03-022460': '',
+    'parse 2024-03-02[UTC][u.ca=hebrew]': '', 'parse 2024-03-02[u-ca=a--b]': '', 'parse 2024-03-02[X-CA=hebrew]': '', 'time 20240302T08:48': '',
 }
 
 
@@ -473,13 +497,13 @@ class Reports(unittest.TestCase):
         for line, wide, *said in [
                 (b'parse 2024-03-02T08:48Z[Am\xe9rica]', False, "expected `]` or more of the time zone's name, found the byte 0xE9",
                  "hint: a time zone's name has no letters but A to Z and a to z"),
-                (b'parse 2024-3-2\xff', False, 'expected a digit of the month, which has two, found `-`', 'hint: write the month as `03`, and the day as `02`'),
+                (b'parse 2024-3-2\xff', False, 'expected a digit of the month, which has two, found `-`', 'hint: write the month as `03`'),
                 (b'offset +05\xe2', True, "expected `:`, a digit or the end after the offset's hour, found the code unit 0xDCE2")]:
             self.assertEqual(self.report(line, wide), said)
 
     def test_control_characters(self):
         self.assertEqual(self.report(b'parse 2024-03-02\x1bT08'), ['expected `T`, a space, `[` or the end after the date, found U+001B',
-                                                                   '2024-03-02.T08', '          ^', f'hint: {DATES}'])
+                                                                   '2024-03-02.T08', '          ^'])
 
     def test_hints(self):
         for line, hint in HINTS.items():
