@@ -2,7 +2,7 @@
 use Rattle.std.proofs.Common.{◌≡◌, ℕ, ◌+◌, ◌-◌, List, ◌∷◌, ◌++◌, length, take, drop, position, Option, Some, None, refl, ap, ◌∙◌, append_assoc}
 use Rattle.std.proofs.lemmas.List.{take-append-drop}
 use Rattle.ixdtf_buffers.specs.Lines.{is_byte, newline}
-use Rattle.ixdtf_checks.specs.{Coloured.{coloured_hint, coloured_lines, coloured_marks, lines_with, marks_with, report_with}, Texts.{line_and_column, text_of}, Verdicts.{Refusal, hint_line}}
+use Rattle.ixdtf_checks.specs.{Coloured.{coloured_hint, lines_with, marks_with, report_with}, Texts.{line_and_column, text_of}, Verdicts.{Refusal, hint_line}}
 
 plain_marks : (place : Option ℕ) (marks : List ℕ) → marks_with (λ text. text) place marks ≡ marks
 plain_marks None marks = refl
@@ -20,10 +20,10 @@ plain_hint None = refl
 plain_hint (Some hint) = refl
 
 -- Without its escape sequences, the report with colours is the report as a text.
-pub plain_report : (name : List ℕ) (number : ℕ) (refusal : Refusal) → report_with (λ text. text) (λ text. text) name number refusal
-    ≡ text_of name number refusal.column refusal.message (refusal.lines ++ hint_line refusal.hint)
-plain_report name number refusal =
-    ap (λ lines. (name ++ line_and_column number refusal.column) ++ (refusal.message ++ newline ∷ (lines ++ coloured_hint (λ text. text) refusal.hint)))
+pub plain_report : (name : List ℕ) (number : ℕ) (refusal : Refusal) (hint : Option (List ℕ)) → report_with (λ text. text) (λ text. text) name number refusal hint
+    ≡ text_of name number refusal.column refusal.message (refusal.lines ++ hint_line hint)
+plain_report name number refusal hint =
+    ap (λ lines. (name ++ line_and_column number refusal.column) ++ (refusal.message ++ newline ∷ (lines ++ coloured_hint (λ text. text) hint)))
     (plain_lines (position (is_byte newline) refusal.lines) refusal.lines)
-    ∙ ap (λ hint. (name ++ line_and_column number refusal.column) ++ (refusal.message ++ newline ∷ (refusal.lines ++ hint))) (plain_hint refusal.hint)
-    ∙ append_assoc name (line_and_column number refusal.column) (refusal.message ++ newline ∷ (refusal.lines ++ hint_line refusal.hint))
+    ∙ ap (λ last. (name ++ line_and_column number refusal.column) ++ (refusal.message ++ newline ∷ (refusal.lines ++ last))) (plain_hint hint)
+    ∙ append_assoc name (line_and_column number refusal.column) (refusal.message ++ newline ∷ (refusal.lines ++ hint_line hint))

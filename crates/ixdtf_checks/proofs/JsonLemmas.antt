@@ -22,16 +22,16 @@ string-parts before shown after =
     ∙ ap (λ (t : List ℕ). flat_map json_byte before ++ t) (append_assoc (flat_map json_byte shown) (flat_map json_byte after) (codes "\"")))
 
 -- An object and a newline.
-pub object-line : (name : List ℕ) (number : ℕ) (refusal : Refusal) →
+pub object-line : (name : List ℕ) (number : ℕ) (refusal : Refusal) (hint : Option (List ℕ)) →
     (codes "{\"file\":" ++ json_string name) ++ (json_place number refusal.column refusal.end
-    ++ ((codes ",\"reason\":" ++ json_string refusal.reason) ++ (codes ",\"text\":" ++ (json_string refusal.message ++ (json_hint refusal.hint ++ codes "}\n")))))
-    ≡ json_object name number refusal ++ newline ∷ []
-object-line name number refusal =
+    ++ ((codes ",\"reason\":" ++ json_string refusal.reason) ++ (codes ",\"text\":" ++ (json_string refusal.message ++ (json_hint hint ++ codes "}\n")))))
+    ≡ json_object name number refusal hint ++ newline ∷ []
+object-line name number refusal hint =
     let file = codes "{\"file\":" ++ json_string name in
     let place = json_place number refusal.column refusal.end in
     let reason = codes ",\"reason\":" ++ json_string refusal.reason in
     let text = codes ",\"text\":" in
-    sym (joined file place reason text (json_string refusal.message) (json_hint refusal.hint) (codes "}") (newline ∷ []))
+    sym (joined file place reason text (json_string refusal.message) (json_hint hint) (codes "}") (newline ∷ []))
   where
     joined : (a b c d e h f g : List ℕ) → (a ++ (b ++ (c ++ ((d ++ e) ++ (h ++ f))))) ++ g ≡ a ++ (b ++ (c ++ (d ++ (e ++ (h ++ (f ++ g))))))
     joined a b c d e h f g = simp (append_assoc)

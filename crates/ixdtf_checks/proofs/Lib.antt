@@ -13,3 +13,4 @@ pub mod ShownLemmas
 pub mod VerdictLemmas
 pub mod ReportLemmas
 pub mod SecondLemmas
+pub mod UnreadLemmas

@@ -1,16 +1,17 @@
 -- Proves that a run over lines writes the reports of the lines.
-use Rattle.std.proofs.Common.{◌≡◌, ◌≢◌, refl, true, false, ℕ, ◌+◌, ◌≤◌, ◌<◌, ◌^◌, List, [], ◌∷◌, ◌++◌, length, Option, None, Result, Ok, Err, OnOk, ap, subst, ◌∙◌, arith}
+use Rattle.std.proofs.Common.{◌≡◌, refl, true, false, ℕ, ◌+◌, ◌≤◌, ◌<◌, ◌^◌, List, [], ◌∷◌, ◌++◌, length, Option, None, Result, Ok, Err, OnOk, ap, subst, sym, ◌∙◌, arith}
 use Rattle.std.specs.Io.KnownBytes.{Appends}
 use Rattle.std.proofs.Common.{length-append}
 use Rattle.std.specs.{Prelude.{◌==◌, ◌||◌, nat_lt, Bool}, Bool.MatchBool}
-use Rattle.ixdtf_buffers.specs.{declared.error.RunError.RunError, Lines.{ended_lines_of, last_line_of, unended_of}, Output.{AppendsFront, written}}
+use Rattle.ixdtf_buffers.specs.{declared.error.RunError.RunError, Lines.{ended_lines_of, last_line_of, unended_of}, Output.{written}}
 use Rattle.ixdtf_buffers.specs.Tasks.{Steps, Does, DoesFront}
+use Rattle.std.proofs.lemmas.List.{append-nil}
 use Rattle.ixdtf_buffers.proofs.LinesLemmas.{lines_most}
-use Rattle.ixdtf_checks.specs.{declared.{request.Request.Request, tally.Tally.Tally, checking.Checking.Checking}, Checks.{Counts, Reports, ReportsFront, ReportsLine}, Second.AddsReports}
+use Rattle.ixdtf_checks.specs.{Texts.text_of, declared.{request.{Request.Request, Format.TheVariants.{Text}}, tally.Tally.Tally, checking.Checking.Checking}, Checks.{Counts, Reports, ReportsFront, ReportsLine}, Second.AddsReports}
 use Rattle.ixdtf_checks.proofs.SecondLemmas.{AddsReports-nil, AddsReports-trans, IsWritten-nil, failed_of, front-written, whole-of}
 use Rattle.ixdtf_instants.specs.declared.instant.Instant.{Instant}
-use Rattle.ixdtf_checks.specs.{Order.latest, Reports.{AreReports, AreVerdicts, IsFirst, IsRefusalReport, IsReport, IsSecond, instant_in, last_instant, refusal_count, refusal_of, refusals_of}}
-use Rattle.ixdtf_checks.specs.Verdicts.{Cause, Refusal, Tells, Verdict, IsVerdict, Verdict.{accepted, printed, skipped, refused}}
+use Rattle.ixdtf_checks.specs.{Order.latest, Reports.{AreReports, AreVerdicts, IsFirst, IsHintIn, IsRefusalReport, IsReport, IsSecond, has_hint, instant_in, last_instant, refusal_count, refusal_of, refusals_of}}
+use Rattle.ixdtf_checks.specs.Verdicts.{Cause, IsHintAbout, Refusal, Tells, Verdict, IsVerdict, Verdict.{accepted, printed, skipped, refused}}
 
 -- A line counts as at most one refused line.
 one_most : (verdict : Verdict) → refusal_count verdict ≤ 1
@@ -31,14 +32,34 @@ record After (tally : Tally) (last : Option Instant) (earlier : List Verdict) : 
 abbrev HasRoom : Tally → ℕ → Type 0
 HasRoom tally count = (tally.lines + count < 2 ^ 64) × (tally.refused + count < 2 ^ 64)
 
--- A line that is refused for a cause has a report, if a report can tell the cause.
-pub reported : (request : Request) (number refusals : ℕ) (instant : Option Instant) (cause : Cause) (refusal : Refusal) → Tells cause refusal
-    → (report : List ℕ) × IsReport request number refusals (refused instant cause) report
-reported request number refusals instant cause refusal tells = by_case (request.is_quiet || nat_lt request.most_reports refusals)
+-- A line that is refused for a cause has a report, if a report can tell the cause, and if it is known which hint is about it.
+pub reported : (request : Request) (number refusals : ℕ) (instant : Option Instant) (cause : Cause) (refusal : Refusal) (hint : Option (List ℕ))
+    → Tells cause refusal → IsHintAbout cause hint → (report : List ℕ) × IsReport request number refusals (refused instant cause) report
+reported request number refusals instant cause refusal hint tells about = by_case (request.is_quiet || nat_lt request.most_reports refusals)
   where
-    by_case : (unreported : Bool) → (report : List ℕ) × MatchBool unreported (report ≡ []) (IsRefusalReport request.format request.name.now number cause report)
+    hinted : Bool
+    hinted = has_hint request.format refusals
+
+    shown : (test : Bool) → (given : Option (List ℕ)) × IsHintIn test cause given
+    shown true = (hint, about)
+    shown false = (None, refl)
+
+    by_case : (unreported : Bool)
+        → (report : List ℕ) × MatchBool unreported (report ≡ []) (IsRefusalReport request.format request.name.now number hinted cause report)
     by_case true = ([], refl)
-    by_case false = (refusal_of request.format request.name.now number refusal, (refusal, tells, refl))
+    by_case false =
+        let (given, is) = shown hinted in (refusal_of request.format request.name.now number refusal given, (refusal, given, tells, is, refl))
+
+-- The name of the file is before a report without a name.
+pub named : (name : List ℕ) (number : ℕ) (hinted : Bool) (cause : Cause) (report : List ℕ) → IsRefusalReport Text [] number hinted cause report
+    → IsRefusalReport Text name number hinted cause (name ++ report)
+named name number hinted cause report (refusal, hint, tells, is, same) = (refusal, hint, tells, is, ap (λ (rest : List ℕ). name ++ rest) same)
+
+-- This is a report without a hint.
+pub unhinted : (number : ℕ) (cause : Cause) (refusal : Refusal) → Tells cause refusal
+    → IsRefusalReport Text [] number false cause (text_of [] number refusal.column refusal.message refusal.lines)
+unhinted number cause refusal tells =
+    (refusal, None, tells, refl, ap (λ (lines : List ℕ). text_of [] number refusal.column refusal.message lines) (sym (append-nil refusal.lines)))
 
 -- The report of a line and the reports of the lines after it are those of all these lines. `Is` says what the report of one line is, for a
 -- request.

@@ -1,10 +1,10 @@
 -- What reaches the second output.
-use Rattle.std.proofs.Common.{◌≡◌, ◌⊎◌, ◌∷◌, ℕ, List, [], ◌++◌, Bool, true, false, Option, Some, None, Result, Ok, Err, OnOk, IfErr, inl, inr, refl, sym, ap, subst, ◌∙◌, append_assoc}
+use Rattle.std.proofs.Common.{◌≡◌, ◌⊎◌, ◌∷◌, ℕ, List, [], ◌++◌, Bool, true, false, Option, Result, Ok, Err, OnOk, IfErr, inr, refl, sym, subst, ◌∙◌, append_assoc}
 use Rattle.std.proofs.{lemmas.List.append-nil, KnownBytes.{Appends-nil, Appends-trans}}
 use Rattle.std.specs.{Bool.MatchBool, Io.KnownBytes.Appends, Result.is_err}
 use Rattle.ixdtf_buffers.specs.{declared.{error.RunError.{RunError, TheVariants.{Read, Write}}, output.Output.Output}, Output.{AppendsFront, Puts, written}}
 use Rattle.ixdtf_buffers.proofs.OutputLemmas.{AppendsFront-more, Sent-all}
-use Rattle.ixdtf_buffers.specs.{Lines.{lines_of, ended_lines_of, last_line_of, unended_of}, Tasks.{Steps, Does, DoesFront, Reads}}
+use Rattle.ixdtf_buffers.specs.{Lines.{lines_of, ended_lines_of, last_line_of, unended_of}, Tasks.{Does, DoesFront, Reads}}
 use Rattle.ixdtf_checks.specs.{declared.second.SecondOutput.SecondOutput, Second.{AddsReports, IsWritten}}
 
 -- A prefix of bytes was written after other bytes.

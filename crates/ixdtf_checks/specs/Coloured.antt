@@ -45,11 +45,11 @@ coloured_hint strong None = []
 coloured_hint strong (Some hint) = strong (codes "hint:") ++ (codes " " ++ (hint ++ newline ∷ []))
 
 -- This is the report with two colours. They are functions, which add something before and after a text.
-abbrev pub report_with : (List ℕ → List ℕ) → (List ℕ → List ℕ) → List ℕ → ℕ → Refusal → List ℕ
-report_with strong red name number refusal =
+abbrev pub report_with : (List ℕ → List ℕ) → (List ℕ → List ℕ) → List ℕ → ℕ → Refusal → Option (List ℕ) → List ℕ
+report_with strong red name number refusal hint =
     strong (name ++ line_and_column number refusal.column)
-    ++ (refusal.message ++ newline ∷ (coloured_lines red refusal.lines ++ coloured_hint strong refusal.hint))
+    ++ (refusal.message ++ newline ∷ (coloured_lines red refusal.lines ++ coloured_hint strong hint))
 
 -- The name of the file, the number of the line, the column and the word before the hint are bold, and the marks are bold and red.
-abbrev pub coloured_of : List ℕ → ℕ → Refusal → List ℕ
-coloured_of name number refusal = report_with bold bold_red name number refusal
+abbrev pub coloured_of : List ℕ → ℕ → Refusal → Option (List ℕ) → List ℕ
+coloured_of name number refusal hint = report_with bold bold_red name number refusal hint

@@ -27,7 +27,7 @@ json_hint (Some hint) = codes ",\"hint\":" ++ json_string hint
 
 -- The object has the name of the file, the number of the line, the columns, the name of the reason, the message, and the hint if there
 -- is one.
-abbrev pub json_object : List ℕ → ℕ → Refusal → List ℕ
-json_object name number refusal =
+abbrev pub json_object : List ℕ → ℕ → Refusal → Option (List ℕ) → List ℕ
+json_object name number refusal hint =
     (codes "{\"file\":" ++ json_string name) ++ (json_place number refusal.column refusal.end
-    ++ ((codes ",\"reason\":" ++ json_string refusal.reason) ++ ((codes ",\"text\":" ++ json_string refusal.message) ++ (json_hint refusal.hint ++ codes "}"))))
+    ++ ((codes ",\"reason\":" ++ json_string refusal.reason) ++ ((codes ",\"text\":" ++ json_string refusal.message) ++ (json_hint hint ++ codes "}"))))

@@ -1,18 +1,33 @@
 -- Defines the reports about the lines of a file.
-use Rattle.std.specs.{Prelude.{◌≡◌, ℕ, Bool, true, false, ◌+◌, ◌||◌, ◌==◌, nat_lt, List, [], ◌∷◌, ◌++◌, length, Option, None}, Bool.MatchBool}
+use Rattle.std.specs.{Prelude.{◌≡◌, ℕ, Bool, true, false, ◌+◌, ◌||◌, ◌==◌, nat_le, nat_lt, List, [], ◌∷◌, ◌++◌, length, Option, None}, Bool.MatchBool}
 use Rattle.ixdtf_instants.specs.declared.instant.Instant.{Instant}
 use Rattle.ixdtf_buffers.specs.Lines.{newline}
-use Rattle.ixdtf_checks.specs.{declared.request.{Request.Request, Task.{Task, TheVariants.{Check, Print, Order}}, Format.{Format, TheVariants.{Text, Coloured, Json}}}, Coloured.coloured_of, Json.json_object, Texts.text_of, Order.latest, Verdicts.{Cause, Refusal, hint_line, Tells, Verdict, IsVerdict, Verdict.{accepted, printed, skipped, refused}}}
+use Rattle.ixdtf_checks.specs.{declared.request.{Request.Request, Task.{Task, TheVariants.{Check, Print, Order}}, Format.{Format, TheVariants.{Text, Coloured, Json}}}, Coloured.coloured_of, Json.json_object, Texts.text_of, Order.latest, Verdicts.{Cause, Refusal, hint_line, IsHintAbout, Tells, Verdict, IsVerdict, Verdict.{accepted, printed, skipped, refused}}}
 
--- This is the report of a refused line in a format.
-abbrev pub refusal_of : Format → List ℕ → ℕ → Refusal → List ℕ
-refusal_of Text name number refusal = text_of name number refusal.column refusal.message (refusal.lines ++ hint_line refusal.hint)
-refusal_of Coloured name number refusal = coloured_of name number refusal
-refusal_of Json name number refusal = json_object name number refusal ++ newline ∷ []
+-- This is the report of a refused line in a format, with a hint if there is one.
+abbrev pub refusal_of : Format → List ℕ → ℕ → Refusal → Option (List ℕ) → List ℕ
+refusal_of Text name number refusal hint = text_of name number refusal.column refusal.message (refusal.lines ++ hint_line hint)
+refusal_of Coloured name number refusal hint = coloured_of name number refusal hint
+refusal_of Json name number refusal hint = json_object name number refusal hint ++ newline ∷ []
 
--- This is a report of a line that is refused for the cause.
-abbrev pub IsRefusalReport : Format → List ℕ → ℕ → Cause → List ℕ → Type 0
-IsRefusalReport format name number cause report = (refusal : Refusal) × Tells cause refusal × (report ≡ refusal_of format name number refusal)
+-- Reports as texts have hints, but only the reports of the first refused lines of a file. This is the number of these lines.
+abbrev pub most_hints : ℕ
+most_hints = 1000
+
+-- Whether the report of a refused line has the hint about it. `refusals` is the number of refused lines of the file up to it.
+abbrev pub has_hint : Format → ℕ → Bool
+has_hint Text refusals = nat_le refusals most_hints
+has_hint Coloured refusals = nat_le refusals most_hints
+has_hint Json refusals = true
+
+-- This is the hint in the report of a line that is refused for the cause.
+abbrev pub IsHintIn : Bool → Cause → Option (List ℕ) → Type 0
+IsHintIn hinted cause hint = MatchBool hinted (IsHintAbout cause hint) (hint ≡ None)
+
+-- This is a report of a line that is refused for the cause. `hinted` says whether it has the hint about the line.
+abbrev pub IsRefusalReport : Format → List ℕ → ℕ → Bool → Cause → List ℕ → Type 0
+IsRefusalReport format name number hinted cause report = (refusal : Refusal) × (hint : Option (List ℕ)) × Tells cause refusal
+    × IsHintIn hinted cause hint × (report ≡ refusal_of format name number refusal hint)
 
 -- This is the report of the line with this number. `refusals` is the number of refused lines up to it.
 abbrev pub IsReport : Request → ℕ → ℕ → Verdict → List ℕ → Type 0
@@ -21,7 +36,7 @@ IsReport request number refusals (printed canonical) report = report ≡ canonic
 IsReport request number refusals skipped report = report ≡ []
 IsReport request number refusals (refused instant cause) report = MatchBool (request.is_quiet || nat_lt request.most_reports refusals)
     (report ≡ [])
-    (IsRefusalReport request.format request.name.now number cause report)
+    (IsRefusalReport request.format request.name.now number (has_hint request.format refusals) cause report)
 
 -- A refused line counts as 1, and any other line as 0.
 abbrev pub refusal_count : Verdict → ℕ

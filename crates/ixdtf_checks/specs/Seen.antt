@@ -50,7 +50,6 @@ seen_refusal refusal = record {
   reason = why_name refusal.why;
   message = message_text refusal.message;
   lines = lines_in refusal.marked;
-  hint = option_map message_text refusal.hint;
 }
 
 -- This is the cause of the definitions.

@@ -9,15 +9,13 @@ use Rattle.ixdtf_instants.specs.declared.instant.Instant.{Instant}
 use Rattle.ixdtf_checks.specs.{Canonicals.IsCanonical, Order.{IsTimed, IsUntimed, IsTooEarly}, Csv.{quoting_message, quoting_name}, Parts.{Text, HasText, IsLost, line_in, width_of}, Skipped.is_skipped, Spaced.{HasHint, SaysWhy}, Errors.HasError}
 
 -- What a report says about a refused line. `column` is where the wrong part begins, and `end` is after its last byte. Both are counted in
--- bytes from 1. `reason` is the name of the reason, `lines` are the lines under the message, and `hint` says what to change, if there is
--- a hint.
+-- bytes from 1. `reason` is the name of the reason, and `lines` are the lines under the message.
 pub record Refusal : Type 0 where
   pub column : ℕ
   pub end : ℕ
   pub reason : List ℕ
   pub message : List ℕ
   pub lines : List ℕ
-  pub hint : Option (List ℕ)
 
 -- This is the line with the hint.
 abbrev pub hint_line : Option (List ℕ) → List ℕ
@@ -45,7 +43,7 @@ pub data Verdict : Type 0 where
 
 -- This is what a report says if the line, or its text, is refused as a whole at this column.
 abbrev pub refusal_at : ℕ → List ℕ → List ℕ → List ℕ → Refusal
-refusal_at column reason message lines = record { column = column; end = column; reason = reason; message = message; lines = lines; hint = None }
+refusal_at column reason message lines = record { column = column; end = column; reason = reason; message = message; lines = lines }
 
 -- A line with more bytes than this is refused, and no reader reads its text.
 abbrev pub line_limit : ℕ
@@ -68,7 +66,6 @@ pub record Explains (has_offset : Bool) (text : Text) (error : LocatedError) (re
   pub end : refusal.end ≡ text.start + width_of text part.end + 1
   pub says : SaysWhy has_offset text.bytes error part refusal.reason refusal.message
   pub shows : ShowsPart text.bytes part refusal.lines
-  pub hints : HasHint has_offset text.bytes error part refusal.hint
 
 -- A report about a line that is refused for the cause says this. The mark under a text that is refused as a whole is under its first
 -- character.
@@ -77,6 +74,14 @@ Tells (whole column reason message) refusal = refusal ≡ refusal_at column reas
 Tells (marked column bytes reason message) refusal =
     (refusal ≡ refusal_at column reason message refusal.lines) × ShowsPart bytes (record { begin = 0; end = 0 }) refusal.lines
 Tells (unread has_offset text error) refusal = Explains has_offset text error refusal
+
+-- This is the hint about a line that is refused for the cause, if there is one. There is none if the line or its text is refused as a
+-- whole.
+abbrev pub IsHintAbout : Cause → Option (List ℕ) → Type 0
+IsHintAbout (whole column reason message) hint = hint ≡ None
+IsHintAbout (marked column bytes reason message) hint = hint ≡ None
+IsHintAbout (unread has_offset text error) hint =
+    (part : WrongPart) × IsPart (extent_of error.reason) text.bytes error.at part × HasHint has_offset text.bytes error part hint
 
 -- The reader refuses the text, and this is the cause.
 abbrev pub IsUnread : Bool → Reader → Text → Cause → Type 0

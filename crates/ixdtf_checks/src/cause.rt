@@ -2,7 +2,7 @@
 //!
 //! A verdict has the cause alone. What a report says about the line is made from the cause when the report is written. So little is
 //! copied from one function to another, and nothing is made for a report that is not written.
-ghost use Rattle.std.specs.Prelude.{◌+◌, ◌≤◌, length};
+ghost use Rattle.std.specs.Prelude.{◌≡◌, ◌+◌, ◌≤◌, length};
 
 use crate::csv::Quoting;
 use crate::part::Part;
@@ -46,4 +46,17 @@ pub struct Unread<'a> {
     pub part: Part<'a>,
     ghost short: { part.start + length part.text.now ≤ 65536 },
     ghost within: { error.at ≤ length part.text.now },
+}
+
+impl Unread<'_> {
+    ghost use Rattle.ixdtf_checks.specs.Parts.{seen_part, width_of};
+
+    /// Returns the column in the line of the byte of the text with this index.
+    #[inline(always)]
+    pub fn column_of(&self, index: usize) -> usize
+        requires { index ≤ length self.now.part.text.now }
+        ensures { result ≡ self.now.part.start + width_of (seen_part self.now.part) index + 1 }
+    {
+        self.part.start + self.part.width_of(index) + 1
+    }
 }

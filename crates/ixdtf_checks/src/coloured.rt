@@ -11,7 +11,7 @@ ghost use Rattle.ixdtf_checks.specs.Seen.{lines_in, seen_cause};
 ghost use Rattle.ixdtf_checks.specs.Texts.{line_and_column};
 
 use crate::cause::Cause;
-use crate::explaining::refusal_of;
+use crate::explaining::{refusal_of, shown_hint};
 use crate::pointed::{ROOM, add_lines};
 use crate::refusal::Marked;
 use crate::room::ReportRoom;
@@ -39,7 +39,8 @@ const HINT: &[u8] = b"\x1b[1mhint:\x1b[0m ";
 /// before and after the number of the line, and a colon and a space after the column.
 const PLACE_ROOM: usize = 44;
 
-/// Writes the report of a line that is refused for this cause to the output, with colours.
+/// Writes the report of a line that is refused for this cause to the output, with colours. If `has_hint` is `true`, the report has the
+/// hint about the line, if there is one.
 ///
 /// The function is not inlined, because most lines are accepted.
 #[cold]
@@ -50,16 +51,18 @@ pub fn put_coloured<K: Sink>(
     name: &str,
     number: u64,
     cause: &Cause<'_>,
+    has_hint: bool,
 ) -> Result<(), RunError>
-    ensures { (report : List ℕ) × IsRefusalReport Coloured name.now number (seen_cause cause.now) report
+    ensures { (report : List ℕ) × IsRefusalReport Coloured name.now number has_hint (seen_cause cause.now) report
         × Puts K.contents K.failed output.old output.new result report }
 {
     let refusal = refusal_of(*cause);
+    let hint = shown_hint(*cause, has_hint);
     put_head(output, name, number, refusal.column)?;
     put_message(output, &refusal.message)?;
     output.put(b"\n")?;
     put_lines(output, &mut room.bytes, refusal.marked)?;
-    put_hint(output, refusal.hint)
+    put_hint(output, hint)
 }
 
 /// Writes the name of the file, the number of the line and the column to the output. They are bold.

@@ -2,7 +2,7 @@
 //!
 //! The reports as a text are the usual ones. So this code is plain: it writes each part of an object, and each byte of a string,
 //! with a call of its own.
-ghost use Rattle.std.specs.Prelude.{◌++◌, ◌∷◌, ℕ, List, [], option_map};
+ghost use Rattle.std.specs.Prelude.{◌++◌, ◌∷◌, ℕ, List, [], true, option_map};
 ghost use Rattle.std.specs.List.{flat_map};
 ghost use Rattle.ixdtf_grammar.specs.Messages.{message_text};
 ghost use Rattle.ixdtf_buffers.specs.Lines.{newline};
@@ -13,7 +13,7 @@ ghost use Rattle.ixdtf_checks.specs.Reports.{IsRefusalReport};
 ghost use Rattle.ixdtf_checks.specs.Seen.{seen_cause, seen_refusal};
 
 use crate::cause::Cause;
-use crate::explaining::{name_of, refusal_of};
+use crate::explaining::{hint_of, name_of, refusal_of};
 use crate::refusal::Refusal;
 use crate::shown::{SHOWN_ROOM, add_two_digits, shown_bytes};
 use ixdtf::Message;
@@ -38,11 +38,12 @@ pub fn put_object<K: Sink>(
     number: u64,
     cause: &Cause<'_>,
 ) -> Result<(), RunError>
-    ensures { (report : List ℕ) × IsRefusalReport Json name.now number (seen_cause cause.now) report
+    ensures { (report : List ℕ) × IsRefusalReport Json name.now number true (seen_cause cause.now) report
         × Puts K.contents K.failed output.old output.new result report }
 {
     let refusal = refusal_of(*cause);
-    put_members(output, name, number, &refusal)
+    let hint = hint_of(*cause);
+    put_members(output, name, number, &refusal, hint)
 }
 
 /// Writes an object with its members to the output, and a newline.
@@ -51,16 +52,17 @@ fn put_members<K: Sink>(
     name: &str,
     number: u64,
     refusal: &Refusal<'_>,
+    hint: Option<Message<'_>>,
 ) -> Result<(), RunError>
     ensures { Puts K.contents K.failed output.old output.new result
-        (json_object name.now number (seen_refusal refusal.now) ++ newline ∷ []) }
+        (json_object name.now number (seen_refusal refusal.now) (option_map message_text hint.entry) ++ newline ∷ []) }
 {
     put_member(output, b"{\"file\":", name.as_bytes())?;
     put_place(output, number, refusal.column, refusal.end)?;
     put_member(output, b",\"reason\":", name_of(refusal.why).as_bytes())?;
     output.put(b",\"text\":")?;
     put_message(output, &refusal.message)?;
-    put_hint(output, refusal.hint)?;
+    put_hint(output, hint)?;
     output.put(b"}\n")
 }
 

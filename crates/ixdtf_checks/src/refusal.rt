@@ -17,8 +17,6 @@ pub struct Refusal<'a> {
     pub message: Message<'a>,
     /// The text of the line and the part of it that is wrong, or `None` if the line has no text.
     pub marked: Option<Marked<'a>>,
-    /// The hint that says what to change in the text, if there is one.
-    pub hint: Option<Message<'a>>,
 }
 
 /// The reason why a line is refused.

@@ -4,6 +4,7 @@ mod arguments;
 mod coloured;
 mod columns;
 mod faults;
+mod hints;
 mod json;
 mod marks;
 mod ordered;

@@ -46,3 +46,11 @@ pub struct Unread<'a> {
     /// The part of the line that is the text.
     pub part: Part<'a>,
 }
+
+impl Unread<'_> {
+    /// Returns the column in the line of the byte of the text with this index.
+    #[inline(always)]
+    pub fn column_of(&self, index: usize) -> usize {
+        self.part.start + self.part.width_of(index) + 1
+    }
+}

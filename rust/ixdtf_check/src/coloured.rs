@@ -5,7 +5,7 @@
 //! A person reads these reports, and they are few. So this code is plain: it writes each part of a report with a call of its own.
 
 use crate::cause::Cause;
-use crate::explaining::refusal_of;
+use crate::explaining::{refusal_of, shown_hint};
 use crate::pointed::{ROOM, add_lines};
 use crate::refusal::Marked;
 use crate::room::ReportRoom;
@@ -33,7 +33,8 @@ const HINT: &[u8] = b"\x1b[1mhint:\x1b[0m ";
 /// before and after the number of the line, and a colon and a space after the column.
 const PLACE_ROOM: usize = 44;
 
-/// Writes the report of a line that is refused for this cause to the output, with colours.
+/// Writes the report of a line that is refused for this cause to the output, with colours. If `has_hint` is `true`, the report has the
+/// hint about the line, if there is one.
 ///
 /// The function is not inlined, because most lines are accepted.
 #[cold]
@@ -44,13 +45,15 @@ pub fn put_coloured<K: Sink>(
     name: &str,
     number: u64,
     cause: &Cause<'_>,
+    has_hint: bool,
 ) -> Result<(), RunError> {
     let refusal = refusal_of(*cause);
+    let hint = shown_hint(*cause, has_hint);
     put_head(output, name, number, refusal.column)?;
     put_message(output, &refusal.message)?;
     output.put(b"\n")?;
     put_lines(output, &mut room.bytes, refusal.marked)?;
-    put_hint(output, refusal.hint)
+    put_hint(output, hint)
 }
 
 /// Writes the name of the file, the number of the line and the column to the output. They are bold.

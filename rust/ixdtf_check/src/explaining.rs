@@ -25,6 +25,28 @@ pub fn refusal_of(cause: Cause<'_>) -> Refusal<'_> {
     }
 }
 
+/// Returns the hint about a line that is refused for this cause, if there is one. There is none if the line or its text is refused as a
+/// whole.
+pub fn hint_of(cause: Cause<'_>) -> Option<Message<'_>> {
+    match cause {
+        Cause::Unread(unread) => hint_about(unread),
+        Cause::TooLong
+        | Cause::NoField(_)
+        | Cause::Broken(_, _)
+        | Cause::Untimed(_)
+        | Cause::Early(_, _) => None,
+    }
+}
+
+/// Returns the hint in the report of a line that is refused for this cause: the hint about the line if `has_hint` is `true`, and
+/// otherwise none.
+pub fn shown_hint(cause: Cause<'_>, has_hint: bool) -> Option<Message<'_>> {
+    if has_hint {
+        return hint_of(cause);
+    }
+    None
+}
+
 /// Returns what a report says about a line that has no text.
 fn refused_whole<'a>(column: usize, why: Why, message: &'static str) -> Refusal<'a> {
     Refusal {
@@ -33,7 +55,6 @@ fn refused_whole<'a>(column: usize, why: Why, message: &'static str) -> Refusal<
         why,
         message: words(message),
         marked: None,
-        hint: None,
     }
 }
 
@@ -45,42 +66,52 @@ fn refused_text<'a>(text: WholeText<'a>, why: Why, message: &'static str) -> Ref
         why,
         message: words(message),
         marked: Some(first_marked(text.text)),
-        hint: None,
     }
 }
 
 /// Returns what a report says about a text that a reader refuses. If texts of this kind can have an offset, and the part that is wrong
-/// begins with a space before an offset, this space is the reason, and the message and the hint are about it. Otherwise the reason, the
-/// message and the hint are those of the error.
-#[inline(always)]
+/// begins with a space before an offset, this space is the reason, and the message is about it. Otherwise the reason and the message are
+/// those of the error.
 fn refused_by_reader(unread: Unread<'_>) -> Refusal<'_> {
-    let part = unread.part;
-    let wrong = unread.error.part_in(part.text);
-    let column = part.start + part.width_of(wrong.begin) + 1;
-    let end = part.start + part.width_of(wrong.end) + 1;
-    let marked = Some(Marked {
-        text: part.text,
-        part: wrong,
-    });
-    if unread.has_offset && is_spaced(&part.text[wrong.begin..]) {
+    let text = unread.part.text;
+    let wrong = unread.error.part_in(text);
+    let column = unread.column_of(wrong.begin);
+    let end = unread.column_of(wrong.end);
+    let marked = Some(Marked { text, part: wrong });
+    if has_space(&unread, wrong) {
         Refusal {
             column,
             end,
             why: Why::SpaceBeforeOffset,
             message: words("a space stands before the offset"),
             marked,
-            hint: Some(words("remove the space before the offset")),
         }
     } else {
         Refusal {
             column,
             end,
             why: Why::Unread(unread.error.reason),
-            message: unread.error.message_in(part.text),
+            message: unread.error.message_in(text),
             marked,
-            hint: unread.error.hint_in(part.text),
         }
     }
+}
+
+/// Returns the hint about a text that a reader refuses, if there is one. If `has_space` is `true` for the part that is wrong, the hint is
+/// about the space. Otherwise it is that of the error.
+fn hint_about(unread: Unread<'_>) -> Option<Message<'_>> {
+    let text = unread.part.text;
+    let wrong = unread.error.part_in(text);
+    if has_space(&unread, wrong) {
+        return Some(words("remove the space before the offset"));
+    }
+    unread.error.hint_in(text)
+}
+
+/// Returns whether texts of this kind can have an offset, and the part that is wrong begins with a space before an offset.
+#[inline(always)]
+pub fn has_space(unread: &Unread<'_>, wrong: WrongPart) -> bool {
+    unread.has_offset && is_spaced(&unread.part.text[wrong.begin..])
 }
 
 /// Returns whether the bytes begin with a space and the beginning of an offset: `Z`, `z`, or a sign and a digit.

@@ -6,7 +6,7 @@
 //! with a call of its own.
 
 use crate::cause::Cause;
-use crate::explaining::{name_of, refusal_of};
+use crate::explaining::{hint_of, name_of, refusal_of};
 use crate::refusal::Refusal;
 use crate::shown::{SHOWN_ROOM, add_two_digits, shown_bytes};
 use ixdtf::Message;
@@ -32,7 +32,8 @@ pub fn put_object<K: Sink>(
     cause: &Cause<'_>,
 ) -> Result<(), RunError> {
     let refusal = refusal_of(*cause);
-    put_members(output, name, number, &refusal)
+    let hint = hint_of(*cause);
+    put_members(output, name, number, &refusal, hint)
 }
 
 /// Writes an object with its members to the output, and a newline.
@@ -41,13 +42,14 @@ fn put_members<K: Sink>(
     name: &str,
     number: u64,
     refusal: &Refusal<'_>,
+    hint: Option<Message<'_>>,
 ) -> Result<(), RunError> {
     put_member(output, b"{\"file\":", name.as_bytes())?;
     put_place(output, number, refusal.column, refusal.end)?;
     put_member(output, b",\"reason\":", name_of(refusal.why).as_bytes())?;
     output.put(b",\"text\":")?;
     put_message(output, &refusal.message)?;
-    put_hint(output, refusal.hint)?;
+    put_hint(output, hint)?;
     output.put(b"}\n")
 }
 

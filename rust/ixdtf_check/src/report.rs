@@ -4,7 +4,7 @@
 
 use crate::cause::Cause;
 use crate::coloured::put_coloured;
-use crate::explaining::refusal_of;
+use crate::explaining::{has_space, hint_of, refusal_of, shown_hint};
 use crate::json::put_object;
 use crate::pointed::{ROOM, add_lines};
 use crate::printed::PrintedText;
@@ -29,6 +29,12 @@ const MOST_NAME: usize = 256;
 /// its report.
 const MOST_PART: usize = 120;
 
+/// The number of refused lines of a file whose reports as texts have hints.
+///
+/// A person reads the first reports. There are only a few hundred different hints, so the hints of later reports would tell nothing new.
+/// They would take a fifth of the time.
+const MOST_HINTS: u64 = 1000;
+
 /// Writes the report of the line to the output. `number` is the number of the line, from 1. `refusals` is the number of
 /// refused lines so far. If this line is refused, it is included. If the verdict is `Verdict::Printed`, `printed` contains
 /// the canonical text of the line.
@@ -51,9 +57,12 @@ pub fn put_report<K: Sink>(
             if request.is_quiet || refusals > request.most_reports {
                 return Ok(());
             }
+            let has_hint = refusals <= MOST_HINTS;
             match request.format {
-                Format::Text => put_refusal(output, room, request.name, number, cause),
-                Format::Coloured => put_coloured(output, room, request.name, number, cause),
+                Format::Text => put_refusal(output, room, request.name, number, cause, has_hint),
+                Format::Coloured => {
+                    put_coloured(output, room, request.name, number, cause, has_hint)
+                }
                 Format::Json => put_object(output, request.name, number, cause),
             }
         }
@@ -67,6 +76,7 @@ pub fn explain(verdict: &Verdict<'_>) {
         Verdict::Printed => {}
         Verdict::Refused(cause) => {
             let _refusal = refusal_of(*cause);
+            let _hint = hint_of(*cause);
         }
     }
 }
@@ -82,10 +92,10 @@ fn put_printed<K: Sink>(output: &mut Output<'_, K>, line: &[u8]) -> Result<(), R
 }
 
 /// Writes the report of a line that is refused for this cause to the output, as a text. If the name of the file is short, the report
-/// is made in the array, and is written as one slice.
+/// is made in the array, and is written as one slice. If `has_hint` is `true`, the report has the hint about the line, if there is one.
 ///
-/// The function is not inlined, because most lines are accepted. But most functions that it calls are inlined into it. Each call
-/// would take about 20 instructions, and would pass the parts of the refusal in memory.
+/// The function is not inlined, because most lines are accepted. But the functions that make the report of most refused lines are
+/// inlined into it. Each call would take about 20 instructions, and would pass the parts of the refusal in memory.
 #[inline(never)]
 fn put_refusal<K: Sink>(
     output: &mut Output<'_, K>,
@@ -93,14 +103,20 @@ fn put_refusal<K: Sink>(
     name: &str,
     number: u64,
     cause: &Cause<'_>,
+    has_hint: bool,
 ) -> Result<(), RunError> {
     let bytes = name.as_bytes();
     if bytes.len() > MOST_NAME {
-        return put_long_named(output, room, bytes, number, cause);
+        return put_long_named(output, room, bytes, number, cause, has_hint);
     }
     let end = add_bytes(&mut room.bytes, 0, bytes);
-    let refusal = refusal_of(*cause);
-    put_after(output, room, end, number, &refusal)
+    if has_hint {
+        return put_any(output, room, end, number, cause, has_hint);
+    }
+    match add_unread(room, end, number, cause) {
+        Some(filled) => output.put(&room.bytes[..filled]),
+        None => put_any(output, room, end, number, cause, has_hint),
+    }
 }
 
 /// Does the work of `put_refusal`. The name of the file is a slice of its own.
@@ -112,10 +128,51 @@ fn put_long_named<K: Sink>(
     name: &[u8],
     number: u64,
     cause: &Cause<'_>,
+    has_hint: bool,
 ) -> Result<(), RunError> {
     let refusal = refusal_of(*cause);
+    let hint = shown_hint(*cause, has_hint);
     output.put(name)?;
-    put_after(output, room, 0, number, &refusal)
+    put_after(output, room, 0, number, &refusal, hint)
+}
+
+/// Writes to the output what is in the array before `at`, and the report after the name of the file, for any cause.
+#[cold]
+#[inline(never)]
+fn put_any<K: Sink>(
+    output: &mut Output<'_, K>,
+    room: &mut ReportRoom,
+    at: usize,
+    number: u64,
+    cause: &Cause<'_>,
+    has_hint: bool,
+) -> Result<(), RunError> {
+    let refusal = refusal_of(*cause);
+    let hint = shown_hint(*cause, has_hint);
+    put_after(output, room, at, number, &refusal, hint)
+}
+
+/// Adds the report after the name of the file, without a hint, if a reader refuses the text. Returns the index after the added bytes.
+///
+/// Returns `None` if the line is refused for another cause, if the part that is wrong begins with a space before an offset, or if a
+/// part of the message is longer than `MOST_PART` bytes.
+///
+/// The function makes no `Refusal`: to copy the message into one takes 14 instructions.
+#[inline(always)]
+fn add_unread(room: &mut ReportRoom, at: usize, number: u64, cause: &Cause<'_>) -> Option<usize> {
+    let Cause::Unread(unread) = cause else {
+        return None;
+    };
+    let text = unread.part.text;
+    let wrong = unread.error.part_in(text);
+    if has_space(unread, wrong) {
+        return None;
+    }
+    let place = add_place(room, at, number, unread.column_of(wrong.begin));
+    let message = unread.error.message_in(text);
+    let end = add_message(&mut room.bytes, place, &message)?;
+    let marked = Marked { text, part: wrong };
+    Some(add_marked(&mut room.bytes, end, Some(marked)))
 }
 
 /// Writes to the output what is in the array before `at`, and the report after the name of the file. These bytes are one slice, if
@@ -127,14 +184,15 @@ fn put_after<K: Sink>(
     at: usize,
     number: u64,
     refusal: &Refusal<'_>,
+    hint: Option<Message<'_>>,
 ) -> Result<(), RunError> {
     let place = add_place(room, at, number, refusal.column);
     match add_message(&mut room.bytes, place, &refusal.message) {
-        Some(end) => put_lines(output, &mut room.bytes, end, refusal.marked, refusal.hint),
+        Some(end) => put_lines(output, &mut room.bytes, end, refusal.marked, hint),
         None => {
             output.put(&room.bytes[..place])?;
             put_message(output, &refusal.message)?;
-            put_lines(output, &mut room.bytes, 0, refusal.marked, refusal.hint)
+            put_lines(output, &mut room.bytes, 0, refusal.marked, hint)
         }
     }
 }

@@ -8,4 +8,4 @@ pub returns-in-Printed : goal.returns-in-Printed
 returns-in-Printed c = λ request number refusals printed. rw c.in-Printed.is (printed ++ newline ∷ [], refl)
 
 pub returns-in-Refused : goal.returns-in-Refused
-returns-in-Refused c = λ request number refusals printed. rw c.in-Refused.is (reported request number refusals None _ _ c.refusal_of-refusal.ensures)
+returns-in-Refused c = λ request number refusals printed. rw c.in-Refused.is (reported request number refusals None _ _ _ c.refusal_of-refusal.ensures c.hint_of-hint.ensures)

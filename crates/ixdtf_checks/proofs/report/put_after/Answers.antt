@@ -12,7 +12,7 @@ returns-in_err-put-in-None g c =
     let front = take c.args.at c.args.room.now.bytes in
     let place = line_and_column c.args.number refusal.column in
     let placed = ap (λ room. take c.add_place-place.result room) (c.in-None.ensures.none refl) ∙ c.add_place-place.ensures.text.is in
-    rw (← append_assoc front place (message_text refusal.message ++ newline ∷ lines_behind refusal.marked refusal.hint))
+    rw (← append_assoc front place (message_text refusal.message ++ newline ∷ lines_behind refusal.marked c.args.hint))
     (Puts-exit _ (rw placed at c.in_err-put-in-None.ensures) c.from_residual.ensures.1)
 
 pub returns-in_err-put_message-in-None : goal.returns-in_err-put_message-in-None
@@ -21,7 +21,7 @@ returns-in_err-put_message-in-None g c =
     let front = take c.args.at c.args.room.now.bytes in
     let place = line_and_column c.args.number refusal.column in
     let placed = ap (λ room. take c.add_place-place.result room) (c.in-None.ensures.none refl) ∙ c.add_place-place.ensures.text.is in
-    rw (← append_assoc front place (message_text refusal.message ++ newline ∷ lines_behind refusal.marked refusal.hint))
+    rw (← append_assoc front place (message_text refusal.message ++ newline ∷ lines_behind refusal.marked c.args.hint))
     (Puts-after (rw placed at c.in_ok-put-in-None.ensures)
     (Puts-exit _ c.in_err-put_message-in-None.ensures c.from_residual-in_err-put_message-in-None.ensures.1))
 
@@ -31,8 +31,8 @@ returns-in-Some g c =
     let front = take c.args.at c.args.room.now.bytes in
     let place = line_and_column c.args.number refusal.column in
     let made = adds_then c.add_place-place.ensures.text c.in-Some.ensures.text in
-    let whole = append_assoc front (place ++ message_text refusal.message) (newline ∷ lines_behind refusal.marked refusal.hint)
-    ∙ ap (λ rest. front ++ rest) (append_assoc place (message_text refusal.message) (newline ∷ lines_behind refusal.marked refusal.hint)) in
+    let whole = append_assoc front (place ++ message_text refusal.message) (newline ∷ lines_behind refusal.marked c.args.hint)
+    ∙ ap (λ rest. front ++ rest) (append_assoc place (message_text refusal.message) (newline ∷ lines_behind refusal.marked c.args.hint)) in
     rw (made.is, whole) at c.put_lines.ensures
 
 pub returns-in_ok-put_message-in-None : goal.returns-in_ok-put_message-in-None
@@ -41,5 +41,5 @@ returns-in_ok-put_message-in-None g c =
     let front = take c.args.at c.args.room.now.bytes in
     let place = line_and_column c.args.number refusal.column in
     let placed = ap (λ room. take c.add_place-place.result room) (c.in-None.ensures.none refl) ∙ c.add_place-place.ensures.text.is in
-    rw (← append_assoc front place (message_text refusal.message ++ newline ∷ lines_behind refusal.marked refusal.hint))
+    rw (← append_assoc front place (message_text refusal.message ++ newline ∷ lines_behind refusal.marked c.args.hint))
     (Puts-after (rw placed at c.in_ok-put-in-None.ensures) (Puts-after c.in_ok-put_message-in-None.ensures c.put_lines-in-None.ensures))

@@ -1,6 +1,6 @@
 -- Proves that the lines under the message are written.
 use Rattle.ixdtf_checks.proofs.report.put_lines.Goals as goal
-use Rattle.std.proofs.Common.{◌∷◌, [], ◌++◌, append_assoc, take, Some}
+use Rattle.std.proofs.Common.{◌∷◌, append_assoc, take, Some}
 use Rattle.std.proofs.lemmas.List.{append-nil}
 use Rattle.ixdtf_grammar.specs.Messages.{message_text}
 use Rattle.ixdtf_buffers.specs.Lines.{newline}

@@ -1,7 +1,7 @@
 -- A refused line that is not reported has an empty report.
 use Rattle.ixdtf_checks.proofs.report.put_report.Goals as goal
 use Rattle.ixdtf_checks.proofs.report.put_report.Goals.{then-request-via-then-request, then-request-via-else-request+then-refusals-request}
-use Rattle.std.proofs.Common.{rules, ◌≡◌, ap, ◌∙◌, true, false, nat_lt, refl, []}
+use Rattle.std.proofs.Common.{rules, ◌≡◌, ap, ◌∙◌, true, nat_lt, refl, []}
 use Rattle.std.specs.Prelude.{◌||◌}
 
 pub returns-then-request : goal.returns-then-request

@@ -1,6 +1,6 @@
 -- The first digits are written, and then the last digit.
 use Rattle.ixdtf_checks.proofs.room.FirstDigits.add_with_last.Goals as goal
-use Rattle.std.proofs.Common.{◌+◌, arith, length, refl}
+use Rattle.std.proofs.Common.{◌+◌, arith, refl}
 use Rattle.ixdtf_buffers.proofs.AddingLemmas.{adds_front, adds_then}
 use Rattle.ixdtf_checks.proofs.NumberLemmas.{last_digit}
 
