@@ -8,15 +8,25 @@ use Rattle.ixdtf_grammar.specs.declared.{located.LocatedError.LocatedError, mess
 use Rattle.ixdtf_checks.specs.{Parts.{Text, width_of}, Seen.lines_at, Spaced.is_spaced, Verdicts.{Explains}}
 use Rattle.ixdtf_checks.proofs.VerdictLemmas.{shows_part}
 
+-- The index after what is added to an array is not before the index at which it begins.
+pub adds_after : (a b : List ℕ) (i j : ℕ) (xs : List ℕ) → i ≤ length a → Adds a b i j xs → i ≤ j
+adds_after a b i j xs within p =
+    let long : length (take i a) ≡ i = length-take-le i a within in
+    let whole : length (take j b) ≡ i + length xs = ap length p.is ∙ length-append (take i a) xs ∙ ap (λ n. n + length xs) long in
+    let cut : length (take j b) ≡ min j (length b) = length-take j b in
+    omega (arith, whole, cut)
+
 -- What is added to an array leaves the bytes before it as they were.
 pub adds_keeps : (a b : List ℕ) (i j : ℕ) (xs : List ℕ) → i ≤ length a → Adds a b i j xs → take i b ≡ take i a
 adds_keeps a b i j xs within p =
     let long : length (take i a) ≡ i = length-take-le i a within in
-    let whole : length (take j b) ≡ i + length xs = ap length p.is ∙ length-append (take i a) xs ∙ ap (λ n. n + length xs) long in
-    let cut : length (take j b) ≡ min j (length b) = length-take j b in
-    let less : i ≤ j = omega (arith, whole, cut) in
     let shorter : i ≤ length (take i a) = omega (arith, long) in
-    sym (take-take i j b less) ∙ ap (take i) p.is ∙ take-append-le i (take i a) xs shorter ∙ take_all i (take i a) (omega (arith, long))
+    sym (take-take i j b (adds_after a b i j xs within p)) ∙ ap (take i) p.is ∙ take-append-le i (take i a) xs shorter
+    ∙ take_all i (take i a) (omega (arith, long))
+
+-- If two arrays are equal up to an index, they are equal up to each earlier index.
+pub take_shorter : (a b : List ℕ) (i j : ℕ) → i ≤ j → take j a ≡ take j b → take i a ≡ take i b
+take_shorter a b i j less same = sym (take-take i j a less) ∙ ap (take i) same ∙ take-take i j b less
 
 -- If the part that is wrong begins with no space before an offset, a report says this about the text.
 pub explained : (has_offset : Bool) (text : Text) (error : LocatedError) (part : WrongPart) (message : Message) (column end : ℕ) → error.at ≤ length text.bytes

@@ -1,9 +1,8 @@
 -- Translates a verdict of the code to the verdict of the definitions. No clause of `check` cites this module.
-use Rattle.std.specs.{Prelude.{ℕ, ◌+◌, if◌then◌else◌, List, [], ◌∷◌, ◌++◌, codes, length, Option, Some, None, option_map}, Str.is_utf8}
+use Rattle.std.specs.{Prelude.{ℕ, ◌+◌, if◌then◌else◌, List, [], ◌∷◌, ◌++◌, codes, Option, Some, None, option_map}, Str.is_utf8}
 use Rattle.ixdtf_grammar.specs.{LocatedTexts.pointed_text, Messages.message_text}
 use Rattle.ixdtf_buffers.specs.Lines.{newline}
-use Rattle.ixdtf_grammar.specs.{ReasonNames.reason_name, declared.message.{Message.Message, Shown.Shown}}
-use Rattle.ixdtf_grammar.specs.declared.message.Shown.TheVariants as shows
+use Rattle.ixdtf_grammar.specs.{ReasonNames.reason_name, declared.message.Message.{Message}}
 use Rattle.ixdtf_instants.specs.declared.instant.Instant.{Instant}
 use Rattle.ixdtf_checks.specs.declared.verdict.Verdict.{Verdict as VerdictInCode, TheVariants.{Accepted, Timed, Printed, Skipped, Refused}}
 use Rattle.ixdtf_checks.specs.declared.cause.Cause.{Cause as CauseInCode}
@@ -24,13 +23,6 @@ lines_in (Some shown) = lines_at shown.part.begin shown.part.end shown.text.now
 -- These lines follow the line with the message.
 abbrev pub lines_behind : Option Marked → Option Message → List ℕ
 lines_behind marked_text hint = lines_in marked_text ++ hint_line (option_map message_text hint)
-
--- This is the number of bytes of the part of the text that a message shows.
-abbrev pub part_length : Shown → ℕ
-part_length shows.Nothing = 0
-part_length (shows.Part text) = length text.now
-part_length (shows.Character character) = 0
-part_length (shows.Byte byte) = 0
 
 -- This is the name of the reason.
 abbrev pub why_name : Why → List ℕ

@@ -6,7 +6,7 @@ ghost use Rattle.ixdtf_buffers.specs.Lines.{newline};
 ghost use Rattle.ixdtf_buffers.specs.Output.{Puts};
 ghost use Rattle.ixdtf_checks.specs.Verdicts.{Refusal as Told, Tells, hint_line};
 ghost use Rattle.ixdtf_checks.specs.Reports.{IsRefusalReport, IsReport};
-ghost use Rattle.ixdtf_checks.specs.Seen.{seen, seen_cause, lines_in, part_length, lines_behind};
+ghost use Rattle.ixdtf_checks.specs.Seen.{seen, seen_cause, lines_in, lines_behind};
 ghost use Rattle.ixdtf_checks.specs.Texts.{line_and_column, text_of};
 
 use crate::cause::Cause;
@@ -253,48 +253,40 @@ fn add_message(room: &mut [u8; ROOM], at: usize, message: &Message<'_>) -> Optio
     requires { at + 360 ≤ 1397 }
     ensures place { IfSome result (λ end. end ≤ at + 360) }
     ensures text { IfSome result (λ end. Adds room.old room.new at end (message_text message.now)) }
-    ensures none { result ≡ None → room.new ≡ room.old }
+    ensures none { result ≡ None → take at room.new ≡ take at room.old }
 {
     let before = message.before.as_bytes();
     let after = message.after.as_bytes();
     if before.len() > MOST_PART || after.len() > MOST_PART {
         return None;
     }
-    if part_length(message.shown) > MOST_PART {
-        return None;
-    }
     let first = add_bytes(room, at, before);
-    let second = add_shown(room, first, message.shown);
+    let second = add_shown(room, first, message.shown)?;
     if after.is_empty() {
         return Some(second);
     }
     Some(add_bytes(room, second, after))
 }
 
-/// Returns the length in bytes of the part of the text that a message shows.
+/// Adds what a message shows of the text. Returns the index after the added bytes, or `None` if it is a part of more than `MOST_PART`
+/// bytes.
 #[inline(always)]
-fn part_length(shown: Shown<'_>) -> usize
-    ensures { result ≡ part_length shown.entry }
+fn add_shown(room: &mut [u8; ROOM], at: usize, shown: Shown<'_>) -> Option<usize>
+    requires { at + 120 ≤ 1397 }
+    ensures place { IfSome result (λ end. end ≤ at + 120) }
+    ensures text { IfSome result (λ end. Adds room.old room.new at end (shown_text shown.entry)) }
+    ensures none { result ≡ None → room.new ≡ room.old }
 {
     match shown {
-        Shown::Part(text) => text.len(),
-        Shown::Nothing | Shown::Character(_) | Shown::Byte(_) => 0,
-    }
-}
-
-/// Adds what a message shows of the text. Returns the index after the added bytes.
-#[inline(always)]
-fn add_shown(room: &mut [u8; ROOM], at: usize, shown: Shown<'_>) -> usize
-    requires short { part_length shown ≤ 120 }
-    requires room { at + 120 ≤ 1397 }
-    ensures place { result ≤ at + 120 }
-    ensures text { Adds room.old room.new at result (shown_text shown.entry) }
-{
-    match shown {
-        Shown::Nothing => at,
-        Shown::Part(text) => add_bytes(room, at, text.as_bytes()),
-        Shown::Character(character) => add_character(room, at, character),
-        Shown::Byte(byte) => add_byte_number(room, at, byte),
+        Shown::Nothing => Some(at),
+        Shown::Part(text) => {
+            if text.len() > MOST_PART {
+                return None;
+            }
+            Some(add_bytes(room, at, text.as_bytes()))
+        }
+        Shown::Character(character) => Some(add_character(room, at, character)),
+        Shown::Byte(byte) => Some(add_byte_number(room, at, byte)),
     }
 }
 

@@ -215,34 +215,28 @@ fn add_message(room: &mut [u8; ROOM], at: usize, message: &Message<'_>) -> Optio
     if before.len() > MOST_PART || after.len() > MOST_PART {
         return None;
     }
-    if part_length(message.shown) > MOST_PART {
-        return None;
-    }
     let first = add_bytes(room, at, before);
-    let second = add_shown(room, first, message.shown);
+    let second = add_shown(room, first, message.shown)?;
     if after.is_empty() {
         return Some(second);
     }
     Some(add_bytes(room, second, after))
 }
 
-/// Returns the length in bytes of the part of the text that a message shows.
+/// Adds what a message shows of the text. Returns the index after the added bytes, or `None` if it is a part of more than `MOST_PART`
+/// bytes.
 #[inline(always)]
-fn part_length(shown: Shown<'_>) -> usize {
+fn add_shown(room: &mut [u8; ROOM], at: usize, shown: Shown<'_>) -> Option<usize> {
     match shown {
-        Shown::Part(text) => text.len(),
-        Shown::Nothing | Shown::Character(_) | Shown::Byte(_) => 0,
-    }
-}
-
-/// Adds what a message shows of the text. Returns the index after the added bytes.
-#[inline(always)]
-fn add_shown(room: &mut [u8; ROOM], at: usize, shown: Shown<'_>) -> usize {
-    match shown {
-        Shown::Nothing => at,
-        Shown::Part(text) => add_bytes(room, at, text.as_bytes()),
-        Shown::Character(character) => add_character(room, at, character),
-        Shown::Byte(byte) => add_byte_number(room, at, byte),
+        Shown::Nothing => Some(at),
+        Shown::Part(text) => {
+            if text.len() > MOST_PART {
+                return None;
+            }
+            Some(add_bytes(room, at, text.as_bytes()))
+        }
+        Shown::Character(character) => Some(add_character(room, at, character)),
+        Shown::Byte(byte) => Some(add_byte_number(room, at, byte)),
     }
 }
 

@@ -1,16 +1,17 @@
 -- Proves which bytes are added to the array.
 use Rattle.ixdtf_checks.proofs.report.add_unread.Goals as goal
-use Rattle.std.proofs.Common.{◌≡◌, ◌+◌, ap, ◌∙◌, sym, drop, arith, false, refl, take}
+use Rattle.std.proofs.Common.{◌≡◌, ◌≤◌, ◌+◌, ◌∙◌, sym, drop, arith, false, length, refl}
 use Rattle.std.specs.Prelude.{◌&&◌}
 use Rattle.ixdtf_buffers.proofs.AddingLemmas.{adds_then}
 use Rattle.ixdtf_grammar.specs.{Messages.message_text, ReasonNames.reason_name}
 use Rattle.ixdtf_checks.specs.{Parts.{seen_part, width_of}, Seen.lines_at, Spaced.is_spaced}
-use Rattle.ixdtf_checks.proofs.UnreadLemmas.{adds_keeps, explained}
+use Rattle.ixdtf_checks.proofs.UnreadLemmas.{adds_after, adds_keeps, explained, take_shorter}
 
 pub returns-in_err-end-clause-none : goal.returns-in_err-end-clause-none
 returns-in_err-end-clause-none c = λ none.
-    ap (λ room. take c.args.at room) (c.in_err-end.ensures.none refl)
-    ∙ adds_keeps _ _ _ _ _ (omega (arith, c.requires)) c.add_place-place.ensures.text
+    let within : c.args.at ≤ length c.args.room.now.bytes = omega (arith, c.requires) in
+    take_shorter _ _ _ _ (adds_after _ _ _ _ _ within c.add_place-place.ensures.text) (c.in_err-end.ensures.none refl)
+    ∙ adds_keeps _ _ _ _ _ within c.add_place-place.ensures.text
 
 pub returns-clause-text : goal.returns-clause-text
 returns-clause-text c =

@@ -11,7 +11,7 @@ returns-in_err-put-in-None g c =
     let refusal = c.args.refusal.now in
     let front = take c.args.at c.args.room.now.bytes in
     let place = line_and_column c.args.number refusal.column in
-    let placed = ap (λ room. take c.add_place-place.result room) (c.in-None.ensures.none refl) ∙ c.add_place-place.ensures.text.is in
+    let placed = c.in-None.ensures.none refl ∙ c.add_place-place.ensures.text.is in
     rw (← append_assoc front place (message_text refusal.message ++ newline ∷ lines_behind refusal.marked c.args.hint))
     (Puts-exit _ (rw placed at c.in_err-put-in-None.ensures) c.from_residual.ensures.1)
 
@@ -20,7 +20,7 @@ returns-in_err-put_message-in-None g c =
     let refusal = c.args.refusal.now in
     let front = take c.args.at c.args.room.now.bytes in
     let place = line_and_column c.args.number refusal.column in
-    let placed = ap (λ room. take c.add_place-place.result room) (c.in-None.ensures.none refl) ∙ c.add_place-place.ensures.text.is in
+    let placed = c.in-None.ensures.none refl ∙ c.add_place-place.ensures.text.is in
     rw (← append_assoc front place (message_text refusal.message ++ newline ∷ lines_behind refusal.marked c.args.hint))
     (Puts-after (rw placed at c.in_ok-put-in-None.ensures)
     (Puts-exit _ c.in_err-put_message-in-None.ensures c.from_residual-in_err-put_message-in-None.ensures.1))
@@ -40,6 +40,6 @@ returns-in_ok-put_message-in-None g c =
     let refusal = c.args.refusal.now in
     let front = take c.args.at c.args.room.now.bytes in
     let place = line_and_column c.args.number refusal.column in
-    let placed = ap (λ room. take c.add_place-place.result room) (c.in-None.ensures.none refl) ∙ c.add_place-place.ensures.text.is in
+    let placed = c.in-None.ensures.none refl ∙ c.add_place-place.ensures.text.is in
     rw (← append_assoc front place (message_text refusal.message ++ newline ∷ lines_behind refusal.marked c.args.hint))
     (Puts-after (rw placed at c.in_ok-put-in-None.ensures) (Puts-after c.in_ok-put_message-in-None.ensures c.put_lines-in-None.ensures))
