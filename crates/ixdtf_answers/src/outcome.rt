@@ -129,8 +129,8 @@ pub fn put_offset<K: Sink>(
     output.put(&room[..end])
 }
 
-/// Writes `ok`, the zone, and a newline. The zone was not read in brackets. So it cannot be critical, and there is no `!`
-/// before it.
+/// Writes `ok`, the zone, and a newline. Only a zone in brackets can be critical: then a `!` follows the `[`. This zone was read
+/// without brackets. So it is not critical, and the answer has no `!` before it.
 pub fn put_zone<K: Sink>(
     output: &mut Output<'_, K>,
     zone: &TimeZoneRecord<'_, Utf8>,
@@ -181,7 +181,8 @@ pub fn put_instant<K: Sink>(
 
 /// Writes the answer for a refused text, and a newline.
 ///
-/// The text of each error that a reader returns is short. So the answer is made in an array, and written at once.
+/// The text of each error that a reader returns is short. So the answer is made in an array, and one call of `Output::put` appends it
+/// to the output.
 #[inline(never)]
 pub fn put_error<K: Sink>(output: &mut Output<'_, K>, error: ParseError) -> Result<(), RunError>
     requires { length (message_of (fault_of error)) ≤ 69 }

@@ -18,7 +18,8 @@ use ixdtf::{Message, Shown, WrongPart};
 
 /// Returns what a report says about a line that is refused for this cause.
 ///
-/// The function is inlined, so that a report as a text does not make what only an object of JSON says.
+/// The function is inlined, so that the compiler can leave out the fields that the caller does not use. For example, a report as a
+/// text does not use `end` and `why`: only an object of JSON does.
 #[inline(always)]
 pub fn refusal_of(cause: Cause<'_>) -> Refusal<'_>
     ensures { Tells (seen_cause cause.entry) (seen_refusal result) }
@@ -131,7 +132,8 @@ fn hint_about(unread: Unread<'_>) -> Option<Message<'_>>
     unread.error.hint_in(text)
 }
 
-/// Returns whether texts of this kind can have an offset, and the part that is wrong begins with a space before an offset.
+/// Returns `true` if two conditions are met. Texts of the kind can have an offset (`unread.has_offset`). At the beginning of the part
+/// that is wrong there is a space, and the beginning of an offset follows it.
 #[inline(always)]
 pub fn has_space(unread: &Unread<'_>, wrong: WrongPart) -> bool
     requires { wrong.begin ≤ length unread.now.part.text.now }
@@ -183,7 +185,8 @@ fn message_of_quoting(quoting: Quoting) -> &'static str
     }
 }
 
-/// Returns the name of the reason: that of `Reason::name`, or a name of this crate.
+/// Returns the name of the reason, which an object of JSON contains. If a reader refuses the text, the name is that of `Reason::name`.
+/// This crate defines the other names, such as `line_too_long`.
 pub fn name_of(why: Why) -> &'static str
     ensures { result.now ≡ why_name why }
 {

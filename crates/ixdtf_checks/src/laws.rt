@@ -1,4 +1,4 @@
-//! The check with a source and a sink in memory. Its contract says exactly which reports are written.
+//! The check with a source and two sinks in memory. Its contract says exactly which reports are written.
 ghost use Rattle.std.specs.Prelude.{◌≡◌, ◌⊎◌, ℕ, List, [], ◌++◌, length, Some, Err, OnOk, IfErr};
 ghost use Rattle.ixdtf_buffers.specs.Lines.{lines_of};
 ghost use Rattle.ixdtf_checks.specs.Checks.{ReportsFront, ReportsWhole};
@@ -8,11 +8,11 @@ use crate::request::Request;
 use ixdtf_buffers::error::RunError;
 use ixdtf_buffers::memory::{MemorySink, MemorySource};
 
-/// Checks each line of the bytes, and writes what it writes to two empty sinks in memory: the reports to `sink`, or the canonical texts
-/// to `sink` and the reports to `reports`.
+/// Checks each line of the bytes. Writes to two sinks in memory, which must be empty. If the task is `Task::Print`, the canonical
+/// texts go to `sink`, and the reports go to `reports`. Otherwise the reports go to `sink`, and nothing goes to `reports`.
 ///
-/// The only possible error is that of a write. After this error, one of the sinks is full, and the bytes of each are a prefix of what
-/// is written to it.
+/// The only possible error is that of a write. After this error, at least one of the two sinks is full. Each sink contains a prefix of
+/// what would be written to it if no sink became full.
 pub fn check_in_memory<const SIZE: usize, const ROOM: usize>(
     bytes: &[u8],
     sink: &mut MemorySink<SIZE>,

@@ -87,8 +87,9 @@ pub fn without_return(line: &[u8]) -> &[u8]
 /// to a record of RFC 4180 and is in quotes, the text begins after the opening quote. Returns an error if the line is refused
 /// before its text is read.
 ///
-/// `plain_fields` and `csv_field` are not inlined, so their results are in memory. Each of these results is taken apart and made
-/// again. So the result of `part_of` can be in registers, and for a single field it is not written to memory.
+/// `plain_fields` and `csv_field` are not inlined, so their results are in memory. `part_of` takes the `Part` or the `Lost` out of
+/// such a result, and makes a new `Result` from it. So the result of `part_of` can be in registers, and for a single field it is not
+/// written to memory.
 #[inline(always)]
 pub fn part_of<'a>(
     field: Field,

@@ -1,7 +1,8 @@
 //! Makes the lines under a message: a text, and marks under the part that is wrong.
 //!
-//! The complete text is tested for UTF-8. Apart from this test, only the part that is shown is read: at most 48 characters before
-//! the position, and at most 24 from it on. Each character has at most four bytes.
+//! The complete text is tested for UTF-8. Apart from this test, only the part that is shown is read. In these comments, the *position*
+//! is the index at which the part that is wrong begins. At most 48 characters before the position are shown, and at most 24 from the
+//! position on. Each character has at most four bytes.
 ghost use Rattle.std.specs.Prelude.{◌≡◌, ◌<◌, ◌≤◌, ◌+◌, ◌∷◌, length, map, take, drop, replicate, slice_index, IsTrue, IsUtf8, false};
 ghost use Rattle.std.specs.Str.{IsAscii, chars};
 ghost use Rattle.ixdtf_grammar.specs.LocatedTexts.{column_of, cut_mark, marks_of};

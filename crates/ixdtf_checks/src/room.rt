@@ -67,8 +67,8 @@ impl FirstDigits {
         }
     }
 
-    /// Writes the number in decimal digits from the index on, and returns the index after it. If the number does not have these first
-    /// digits, they become those of the number.
+    /// Writes the number in decimal digits from the index on, and returns the index after it. If the first digits in `self` are not
+    /// those of `number`, the function first replaces them by those of `number`.
     #[inline(always)]
     pub fn add_number<const SIZE: usize>(
         &mut self,

@@ -1,4 +1,5 @@
-//! Writes a message, and makes the bytes of what a message shows of a refused text.
+//! Writes messages about refused texts. A message can show a part of the text, a character, or a byte. This module makes the bytes
+//! that show it.
 //!
 //! `Display` of [`Shown`] writes the same bytes. The program makes them without `core::fmt`, because that is faster.
 ghost use Rattle.std.specs.Prelude.{◌≡◌, ◌==◌, ◌<◌, ◌≤◌, ◌+◌, ◌∷◌, ◌++◌, [], true, length, codes, if◌then◌else◌};
@@ -20,7 +21,8 @@ pub const SHOWN_ROOM: usize = 40;
 
 /// Returns what a message shows of the text, as `Display` of `Shown` writes it.
 ///
-/// The function writes a character or a byte into `room`, and returns a prefix of `room`. It does not copy a part of the text.
+/// If `shown` is a character or a byte, the function writes it into `room`, and returns a prefix of `room`. If `shown` is a part of
+/// the text, the function returns this part without a copy.
 pub fn shown_bytes<'b>(shown: Shown<'b>, room: &'b mut [u8; SHOWN_ROOM]) -> &'b [u8]
     ensures { result.now ≡ shown_text shown.entry }
 {
@@ -100,7 +102,7 @@ fn add_named_number<const SIZE: usize>(room: &mut [u8; SIZE], at: usize, charact
     add_bytes(room, name, look_alike(character))
 }
 
-/// Adds the number of a byte with which no character begins.
+/// Adds the value of a byte, such as `the byte 0xE9`. A message shows a byte if the bytes of the text are not UTF-8 there.
 #[cold]
 #[inline(never)]
 pub fn add_byte_number<const SIZE: usize>(room: &mut [u8; SIZE], at: usize, byte: u8) -> usize

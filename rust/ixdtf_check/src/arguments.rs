@@ -121,7 +121,8 @@ impl Wrong {
     }
 }
 
-/// Returns the option, or the name of a kind or of a format, or the value of `--color`, that the user probably meant with a refused word.
+/// Returns what the user probably meant with a refused word: an option, the name of a kind, the name of a format, or a value of
+/// `--color`.
 pub fn meant_by(word: &str, wrong: Wrong) -> Option<&'static str> {
     let (option, value) = match word.split_once('=') {
         None => (word, word),
@@ -460,21 +461,22 @@ impl Options {
         Word::Option
     }
 
-    /// Decides what `--color auto` means, which is also the meaning without `--color`. `shows_colors` says whether the reports go to
-    /// a terminal that shows colours. Call this function after all words. Without a call, the reports have no colours.
+    /// Decides whether reports as a text have colours if the user gave `--color auto`, or no `--color`. `shows_colors` says whether
+    /// the reports go to a terminal that shows colours. Call this function after all words. Without a call, `auto` means no colours.
     pub fn settle_color(&mut self, shows_colors: bool) {
         if self.color == Color::Auto && shows_colors {
             self.color = Color::Always;
         }
     }
 
-    /// Returns whether the reports go to standard error, because canonical texts go to standard output.
+    /// Returns whether there is `--canonical`. With this option, the canonical texts go to standard output, and the reports go to
+    /// standard error.
     pub fn has_two_outputs(&self) -> bool {
         self.is_canonical
     }
 
-    /// Returns whether the counts are written to standard error. They are not if objects of JSON go there, because then standard error
-    /// is a file of objects.
+    /// Returns whether the counts are written to standard error. If the reports go to standard error as objects of JSON, the counts
+    /// are not written there. Then standard error contains only objects, if nothing fails.
     pub fn has_counts(&self) -> bool {
         !(self.has_two_outputs() && self.format == Format::Json)
     }

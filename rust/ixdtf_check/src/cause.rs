@@ -2,8 +2,8 @@
 
 //! Why a line is refused.
 //!
-//! A verdict has the cause alone. What a report says about the line is made from the cause when the report is written. So little is
-//! copied from one function to another, and nothing is made for a report that is not written.
+//! If a line is refused, its verdict contains only the cause. What a report says about the line is made from the cause when the report
+//! is written. For this reason, few bytes are copied from one function to another. If a report is not written, nothing is made for it.
 
 use crate::csv::Quoting;
 use crate::part::Part;
@@ -48,7 +48,7 @@ pub struct Unread<'a> {
 }
 
 impl Unread<'_> {
-    /// Returns the column in the line of the byte of the text with this index.
+    /// Converts an index in the text into a column of the line. The column is counted in bytes, from 1.
     #[inline(always)]
     pub fn column_of(&self, index: usize) -> usize {
         self.part.start + self.part.width_of(index) + 1

@@ -33,10 +33,10 @@ const HINT: &[u8] = b"\x1b[1mhint:\x1b[0m ";
 /// before and after the number of the line, and a colon and a space after the column.
 const PLACE_ROOM: usize = 44;
 
-/// Writes the report of a line that is refused for this cause to the output, with colours. If `has_hint` is `true`, the report has the
-/// hint about the line, if there is one.
+/// Writes the report of a refused line to the output, with colours. `cause` says why the line is refused. If `has_hint` is `true`, the
+/// report has the hint about the line, if there is one.
 ///
-/// The function is not inlined, because most lines are accepted.
+/// The function is not inlined, because it is called only for refused lines, and most lines are accepted.
 #[cold]
 #[inline(never)]
 pub fn put_coloured<K: Sink>(

@@ -2,8 +2,8 @@
 
 //! Writes the report of a refused line as an object of JSON (RFC 8259).
 //!
-//! The reports as a text are the usual ones. So this code is plain: it writes each part of an object, and each byte of a string,
-//! with a call of its own.
+//! Most reports are written as a text, and not as an object of JSON. So this code is plain: it writes each part of an object, and each
+//! byte of a string, with a call of its own.
 
 use crate::cause::Cause;
 use crate::explaining::{hint_of, name_of, refusal_of};
@@ -19,10 +19,10 @@ use ixdtf_buffers::sink::Sink;
 /// 25 bytes of the names before them.
 const PLACE_ROOM: usize = 85;
 
-/// Writes the report of a line that is refused for this cause to the output, as an object. `name` is the name of the file, and
-/// `number` is the number of the line, from 1.
+/// Writes the report of a refused line to the output, as an object. `cause` says why the line is refused. `name` is the name of the
+/// file, and `number` is the number of the line, from 1.
 ///
-/// The function is not inlined, because most lines are accepted.
+/// The function is not inlined, because it is called only for refused lines, and most lines are accepted.
 #[cold]
 #[inline(never)]
 pub fn put_object<K: Sink>(

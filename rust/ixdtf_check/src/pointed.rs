@@ -2,8 +2,9 @@
 
 //! Makes the lines under a message: a text, and marks under the part that is wrong.
 //!
-//! The complete text is tested for UTF-8. Apart from this test, only the part that is shown is read: at most 48 characters before
-//! the position, and at most 24 from it on. Each character has at most four bytes.
+//! The complete text is tested for UTF-8. Apart from this test, only the part that is shown is read. In these comments, the *position*
+//! is the index at which the part that is wrong begins. At most 48 characters before the position are shown, and at most 24 from the
+//! position on. Each character has at most four bytes.
 
 use ixdtf::WrongPart;
 use ixdtf_buffers::adding::{add_byte, add_bytes};

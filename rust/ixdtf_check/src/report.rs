@@ -35,11 +35,12 @@ const MOST_PART: usize = 120;
 /// They would take a fifth of the time.
 const MOST_HINTS: u64 = 1000;
 
-/// Writes the report of the line to the output. `number` is the number of the line, from 1. `refusals` is the number of
-/// refused lines so far. If this line is refused, it is included. If the verdict is `Verdict::Printed`, `printed` contains
-/// the canonical text of the line.
+/// Writes the report of the line to the output. `number` is the number of the line, from 1. `refusals` is the number of refused lines
+/// so far. If this line is refused, it is included. If the verdict is `Verdict::Printed`, `printed` contains the canonical text of the
+/// line.
 ///
-/// The function is inlined, because most lines are accepted and have no report.
+/// The function is inlined, so that no call is made for an accepted line. Most lines are accepted, and only the task `Task::Print`
+/// writes something for them.
 #[inline(always)]
 pub fn put_report<K: Sink>(
     output: &mut Output<'_, K>,
@@ -69,7 +70,8 @@ pub fn put_report<K: Sink>(
     }
 }
 
-/// Makes what the report of the line would say, and writes nothing. The contract states that each line has a report.
+/// Makes the parts of the report of the line, but writes nothing. The function is needed only for the proof: its contract states that
+/// for each line there are bytes that are its report. If nothing is written about the line, these are no bytes.
 pub fn explain(verdict: &Verdict<'_>) {
     match verdict {
         Verdict::Accepted | Verdict::Timed(_) | Verdict::Skipped => {}
@@ -94,8 +96,9 @@ fn put_printed<K: Sink>(output: &mut Output<'_, K>, line: &[u8]) -> Result<(), R
 /// Writes the report of a line that is refused for this cause to the output, as a text. If the name of the file is short, the report
 /// is made in the array, and is written as one slice. If `has_hint` is `true`, the report has the hint about the line, if there is one.
 ///
-/// The function is not inlined, because most lines are accepted. But the functions that make the report of most refused lines are
-/// inlined into it. Each call would take about 20 instructions, and would pass the parts of the refusal in memory.
+/// The function is not inlined, because it is called only for refused lines, and most lines are accepted. But the functions that make
+/// the report of most refused lines are inlined into it. Each call would take about 20 instructions, and would pass the parts of the
+/// refusal in memory.
 #[inline(never)]
 fn put_refusal<K: Sink>(
     output: &mut Output<'_, K>,

@@ -22,7 +22,7 @@ pub struct SecondOutput<'k, E> {
 impl<E: Sink> SecondOutput<'_, E> {
     /// Writes the report of the line to the sink. The arguments are those of `put_report`.
     ///
-    /// The function is not inlined, because most lines are accepted.
+    /// The function is not inlined, because it is called only for refused lines, and most lines are accepted.
     #[cold]
     #[inline(never)]
     pub fn put(
@@ -52,8 +52,9 @@ impl<E: Sink> SecondOutput<'_, E> {
         result
     }
 
-    /// Flushes the sink, if the run ended without an error. `end` says how the run ended. Returns how the check ended: with an
-    /// error if the run did so, or if a write or the flush failed here.
+    /// Flushes the sink, if the run ended without an error and no write to this output has failed. `end` says how the run ended.
+    /// Returns how the check ended. If a write to this output has failed, returns `RunError::Write`. Otherwise, if `end` is an error,
+    /// returns it. Otherwise returns the result of the flush.
     pub fn finish(&mut self, end: Result<(), RunError>) -> Result<(), RunError> {
         if self.has_failed {
             return Err(RunError::Write);

@@ -67,7 +67,7 @@ fn add_fraction(room: &mut [u8; ROOM], at: usize, fraction: Option<Fraction>) ->
     }
 }
 
-/// Adds the offset, which is `Z` or has numbers, if there is one.
+/// If there is an offset, adds it. The offset is `Z`, or has a sign, hours, minutes, and perhaps seconds.
 pub fn add_offset_field(
     room: &mut [u8; ROOM],
     at: usize,
@@ -80,7 +80,7 @@ pub fn add_offset_field(
     }
 }
 
-/// Adds the field of an offset that has numbers.
+/// Adds the field of an offset that is not `Z`.
 pub fn add_offset(room: &mut [u8; ROOM], at: usize, offset: UtcOffsetRecord) -> usize {
     let sign = add_bytes(room, at, b" offset=");
     match offset {

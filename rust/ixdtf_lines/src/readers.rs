@@ -2,8 +2,9 @@
 
 //! Writes the answers of the readers.
 //!
-//! The words for canonical texts have their functions in the module `canonical`. For the other words, this module has functions
-//! that read the text and write the answer. Some of these functions serve two words, such as `time` and `strict-time`.
+//! A line begins with a word. If the word asks for a canonical text, such as `canonical-time`, the function that reads the text is in
+//! the module `canonical`. For the other words, this module has functions that read the text and write the answer. Some of these
+//! functions serve two words, such as `time` and `strict-time`.
 //!
 //! None of these functions is inlined. So each has a stack frame of its own, and the value that its reader returns is in this
 //! frame. With Rattle's compiler, each call of such a function begins with setting the memory for this value to zero. If all
