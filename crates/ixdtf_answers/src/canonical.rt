@@ -1,9 +1,9 @@
 //! Reads texts, and prints their canonical texts. There is one function for each kind of canonical text.
 //!
-//! None of these functions is inlined. So each function has a stack frame of its own, and the value that its reader returns
-//! is in this frame. With Rattle's compiler, each call of such a function begins with setting the memory for this value to
-//! zero. If all readers were in one function, this would be done for the values of all readers at each line. With separate
-//! functions, it is done at most for the functions that the program calls for the line.
+//! None of these functions is inlined. So each function has a stack frame of its own, and the value that its reader returns is in this
+//! frame. With Rattle's compiler, each call of such a function begins with setting the memory for this value to zero. If all readers
+//! were in one function, this would be done for the values of all readers at each line. With separate functions, the program calls at
+//! most one of them for each line. So only the memory for the value of this one function is set to zero.
 ghost use Rattle.std.specs.Prelude.{◌≡◌, ◌≤◌, length, IfOk};
 ghost use Rattle.ixdtf_answers.specs.Parts.{IsPrinted};
 ghost use Rattle.ixdtf_answers.specs.declared.word.Word.TheVariants.{Canonical, CanonicalTime, CanonicalYearMonth, CanonicalMonthDay};
@@ -17,8 +17,8 @@ use ixdtf_print::{
     print_year_month, print_zone,
 };
 
-/// The size in bytes of the array to which the functions of this module print. The canonical text of a value that was read from
-/// a line is shorter.
+/// The size in bytes of the array to which the functions of this module print. If a value was read from a text of at most 4,096 bytes,
+/// its canonical text has fewer bytes than this array. So a newline fits after the canonical text.
 pub const MOST_PRINTED: usize = 4352;
 
 /// Reads the text by `parse`, and prints the canonical text to the beginning of the array. Returns the number of bytes of the

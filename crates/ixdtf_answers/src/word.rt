@@ -21,11 +21,13 @@ pub enum Word {
     Iana,
     /// `duration`: a duration.
     Duration,
-    /// `strict-month-day`: the same as `month-day`, under the strict profile.
+    /// `strict-month-day`: the same as `month-day`, but under the strict profile, `Profile::Strict` of the crate `ixdtf`. Under this
+    /// profile, the day must be at least 1.
     StrictMonthDay,
-    /// `strict-time`: the same as `time`, under the strict profile.
+    /// `strict-time`: the same as `time`, but under the strict profile. Under this profile, some texts are accepted that `time`
+    /// refuses because they could also be dates, such as `1200`.
     StrictTime,
-    /// `strict-duration`: the same as `duration`, under the strict profile.
+    /// `strict-duration`: the same as `duration`, but under the strict profile. Under this profile, a unit must not be repeated.
     StrictDuration,
     /// `canonical`: the same as `parse`, but the answer is the canonical text.
     Canonical,

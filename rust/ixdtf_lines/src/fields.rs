@@ -67,7 +67,7 @@ fn add_fraction(room: &mut [u8; ROOM], at: usize, fraction: Option<Fraction>) ->
     }
 }
 
-/// If there is an offset, adds it. The offset is `Z`, or has a sign, hours, minutes, and perhaps seconds.
+/// If there is an offset, adds it. The offset is `Z`, or has a sign, hours, minutes, and perhaps seconds and a fraction.
 pub fn add_offset_field(
     room: &mut [u8; ROOM],
     at: usize,

@@ -98,8 +98,8 @@ pub fn put_offset<K: Sink>(
     output.put(&room[..end])
 }
 
-/// Writes `ok`, the zone, and a newline. Only a zone in brackets can be critical: then a `!` follows the `[`. This zone was read
-/// without brackets. So it is not critical, and the answer has no `!` before it.
+/// Writes `ok`, the zone, and a newline. Only a zone in brackets can be critical. A critical zone has a `!` after its `[`. This zone
+/// was read without brackets. So it is not critical, and the answer has no `!` before it.
 pub fn put_zone<K: Sink>(
     output: &mut Output<'_, K>,
     zone: &TimeZoneRecord<'_, Utf8>,

@@ -2,15 +2,15 @@
 
 //! Writes the answers of the readers.
 //!
-//! A line begins with a word. If the word asks for a canonical text, such as `canonical-time`, the function that reads the text is in
-//! the module `canonical`. For the other words, this module has functions that read the text and write the answer. Some of these
-//! functions serve two words, such as `time` and `strict-time`.
+//! A line begins with a word. Some words, such as `canonical-time`, ask for the canonical text of a value. For these words, the
+//! function that reads the text of the line is in the module `canonical`. For the other words, this module has functions that read the
+//! text and write the answer. Some of these functions serve two words, such as `time` and `strict-time`.
 //!
-//! None of these functions is inlined. So each has a stack frame of its own, and the value that its reader returns is in this
-//! frame. With Rattle's compiler, each call of such a function begins with setting the memory for this value to zero. If all
-//! readers were in one function, this would be done for the values of all readers at each line. With separate functions, it
-//! is done at most for the functions that the program calls for the line. A record is passed by reference, so that it is not
-//! moved.
+//! None of these functions is inlined. So each has a stack frame of its own, and the value that its reader returns is in this frame.
+//! With Rattle's compiler, each call of such a function begins with setting the memory for this value to zero. If all readers were in
+//! one function, this would be done for the values of all readers at each line. With separate functions, the program calls at most one
+//! of them for each line. So only the memory for the value of this one function is set to zero. A record is passed by reference, so
+//! that it is not moved.
 
 use crate::canonical::{
     MOST_PRINTED, canonical_duration, canonical_month_day, canonical_offset, canonical_record,
