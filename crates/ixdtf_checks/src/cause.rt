@@ -13,7 +13,7 @@ use ixdtf::{Instant, LocatedError};
 pub enum Cause<'a> {
     /// The line is longer than `LINE_LIMIT`.
     TooLong,
-    /// The line has too few fields. The number is the column after its last byte.
+    /// The line has too few fields. The value is the column after the last byte of the line, counted in bytes from 1.
     NoField(usize),
     /// The line is no record of RFC 4180. The number is the column of the byte that is wrong.
     Broken(Quoting, usize),
@@ -26,7 +26,7 @@ pub enum Cause<'a> {
     Unread(Unread<'a>),
 }
 
-/// A text that is refused as a whole.
+/// A text that a reader accepts, but that the task `Task::Order` refuses. It is refused as a whole: no part of it is wrong on its own.
 #[derive(Clone, Copy)]
 pub struct WholeText<'a> {
     /// The column of the first byte of the text.

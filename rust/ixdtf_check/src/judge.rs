@@ -19,8 +19,9 @@ use ixdtf::{Instant, LocatedError};
 /// preceding line whose text names an instant. If the task is `Task::Order` and the text of this line names an instant, `last`
 /// becomes this instant.
 ///
-/// The verdict has to be `Verdict::Accepted` before the call. It is written through a reference, because a verdict that is returned
-/// is copied completely. If the text is only checked, nothing is written for an accepted line, and most lines are accepted.
+/// The verdict has to be `Verdict::Accepted` before the call. It is written through a reference, because a verdict that is returned is
+/// copied completely. If the task is `Task::Check` and the line is accepted, the function does not change `verdict`. Most lines are
+/// accepted.
 #[inline(always)]
 pub fn judge<'a>(
     request: &Request<'_>,

@@ -72,8 +72,8 @@ pub fn without_return(line: &[u8]) -> &[u8] {
 /// before its text is read.
 ///
 /// `plain_fields` and `csv_field` are not inlined, so their results are in memory. `part_of` takes the `Part` or the `Lost` out of
-/// such a result, and makes a new `Result` from it. So the result of `part_of` can be in registers, and for a single field it is not
-/// written to memory.
+/// such a result, and makes a new `Result` from it. So the result of `part_of` can be in registers. A single field (`Extent::One`) is
+/// found by `plain_field`, which is inlined. So its result is not written to memory.
 #[inline(always)]
 pub fn part_of<'a>(
     field: Field,
