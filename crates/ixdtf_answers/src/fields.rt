@@ -155,8 +155,8 @@ fn add_full_offset(room: &mut [u8; ROOM], at: usize, offset: FullPrecisionOffset
     add_fraction(room, point, fraction)
 }
 
-/// If there is a zone, adds the label of its field, such as ` tz=`, but not the name of the zone. The caller writes the name.
-/// If the zone is an offset, adds the complete field.
+/// If the zone has a name, adds the label of its field, such as ` tz=`, but not the name. The caller writes the name. If the zone is
+/// an offset, adds the complete field.
 pub fn add_zone_field_front(
     room: &mut [u8; ROOM],
     at: usize,
@@ -173,8 +173,8 @@ pub fn add_zone_field_front(
     }
 }
 
-/// Adds the label of the field of a zone, such as ` tz=`, but not the name of the zone. The caller writes the name. If the zone
-/// is an offset, adds the complete field.
+/// If the zone has a name, adds the label of its field, such as ` tz=`, but not the name. The caller writes the name. If the zone is
+/// an offset, adds the complete field.
 pub fn add_zone_front(
     room: &mut [u8; ROOM],
     at: usize,

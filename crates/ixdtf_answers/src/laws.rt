@@ -1,4 +1,5 @@
-//! The run with a source and a sink in memory. If the run returns `Ok`, its contract says exactly which answers are written.
+//! The run with a source and a sink in memory. If `run_in_memory` returns `Ok`, the sink has the answers to all lines of the input,
+//! each with a newline, and nothing more. The contract of `run_in_memory` says this.
 ghost use Rattle.std.specs.Prelude.{◌≡◌, ℕ, List, [], ◌++◌, length, Some, Err, OnOk, IfErr};
 ghost use Rattle.ixdtf_buffers.specs.Lines.{lines_of};
 ghost use Rattle.ixdtf_answers.specs.Run.{AreAnswers, WritesFront};
@@ -9,8 +10,9 @@ use ixdtf_buffers::memory::{MemorySink, MemorySource};
 
 /// Answers each line of the bytes, and writes the answers to an empty sink in memory.
 ///
-/// The only possible error is that of a write. After this error, the sink is full. Its bytes are a prefix of the answers to the lines
-/// of some prefix of the input.
+/// The only possible error is that of a write. After this error, the sink is full. Until the error, a prefix of the input was read.
+/// The bytes in the sink are a prefix of the answers to the lines of the bytes that were read. So the last answer in the sink can be
+/// incomplete.
 pub fn run_in_memory<const SIZE: usize>(
     bytes: &[u8],
     sink: &mut MemorySink<SIZE>,

@@ -130,7 +130,7 @@ pub fn put_offset<K: Sink>(
 }
 
 /// Writes `ok`, the zone, and a newline. Only a zone in brackets can be critical. A critical zone has a `!` after its `[`. This zone
-/// was read without brackets. So it is not critical, and the answer has no `!` before it.
+/// was read without brackets. So the zone is not critical, and the answer has no `!` before the zone.
 pub fn put_zone<K: Sink>(
     output: &mut Output<'_, K>,
     zone: &TimeZoneRecord<'_, Utf8>,

@@ -18,8 +18,8 @@ use ixdtf::{Message, Shown, WrongPart};
 
 /// Returns what a report says about a line that is refused for this cause.
 ///
-/// The function is inlined, so that the compiler can leave out the fields that the caller does not use. For example, a report as a
-/// text does not use `end` and `why`: only an object of JSON does.
+/// The function is inlined, so that the compiler can leave out the fields of `Refusal` that the caller does not use. For example, a
+/// report as a text does not use `end` and `why`: only an object of JSON does.
 #[inline(always)]
 pub fn refusal_of(cause: Cause<'_>) -> Refusal<'_>
     ensures { Tells (seen_cause cause.entry) (seen_refusal result) }
@@ -51,8 +51,8 @@ pub fn hint_of(cause: Cause<'_>) -> Option<Message<'_>>
     }
 }
 
-/// Returns the hint in the report of a line that is refused for this cause: the hint about the line if `has_hint` is `true`, and
-/// otherwise none.
+/// Returns the hint that the report of a refused line shows. If `has_hint` is `true`, this is the result of `hint_of`. Otherwise it is
+/// `None`.
 pub fn shown_hint(cause: Cause<'_>, has_hint: bool) -> Option<Message<'_>>
     ensures { IsHintIn has_hint (seen_cause cause.entry) (option_map message_text result) }
 {
@@ -132,8 +132,10 @@ fn hint_about(unread: Unread<'_>) -> Option<Message<'_>>
     unread.error.hint_in(text)
 }
 
-/// Returns `true` if two conditions are met. Texts of the kind can have an offset (`unread.has_offset`). At the beginning of the part
-/// that is wrong there is a space, and the beginning of an offset follows it.
+/// Returns `true` if both conditions are met:
+///
+/// - Texts of the kind can have an offset after their time (`unread.has_offset`).
+/// - From the beginning of the part that is wrong on, the text has a space, and then the beginning of an offset.
 #[inline(always)]
 pub fn has_space(unread: &Unread<'_>, wrong: WrongPart) -> bool
     requires { wrong.begin ≤ length unread.now.part.text.now }

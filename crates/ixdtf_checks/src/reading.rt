@@ -51,7 +51,8 @@ pub fn read(kind: Kind, profile: Profile, text: &[u8]) -> Result<(), LocatedErro
     }
 }
 
-/// Reads the text as `parse` reads it. Returns the error with its position, if the text is refused.
+/// Reads the text as a text of the kind `date-time`, with `IxdtfParser::parse_located`. Returns the error with its position, if the
+/// text is refused.
 #[inline(always)]
 pub fn read_date_time(text: &[u8]) -> Result<(), LocatedError>
     ensures ok { OnOk result (IsRead parse text.now) }

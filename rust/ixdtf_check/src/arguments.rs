@@ -72,7 +72,8 @@ pub enum Wrong {
     InvalidFields,
     /// There is `--fields`, and the value of `--separator` is not a space.
     FieldsSeparator,
-    /// There is `--csv`, but the text is not one field: there is no `--field`, or a later `--fields` replaces it.
+    /// There is `--csv`, but the text of a line is not one field. Either there is no `--field`, or `--fields` comes after `--field`
+    /// and replaces it.
     CsvWithoutField,
     /// There is `--csv`, and the value of `--separator` is a quote.
     CsvSeparator,
@@ -461,8 +462,9 @@ impl Options {
         Word::Option
     }
 
-    /// Decides whether reports as a text have colours if the user gave `--color auto`, or no `--color`. `shows_colors` says whether
-    /// the reports go to a terminal that shows colours. Call this function after all words. Without a call, `auto` means no colours.
+    /// Decides whether reports have colours, for `--color auto` and for no `--color`. Reports as objects of JSON never have colours.
+    /// `shows_colors` says whether the reports go to a terminal that shows colours. Call this function after all words. Without a
+    /// call, `auto` means no colours.
     pub fn settle_color(&mut self, shows_colors: bool) {
         if self.color == Color::Auto && shows_colors {
             self.color = Color::Always;

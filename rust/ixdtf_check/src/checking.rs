@@ -24,8 +24,8 @@ pub struct Checking<'n, 'k, E> {
     pub printed: PrintedText,
     /// The array in which a report is made. It is kept between lines.
     pub room: ReportRoom,
-    /// A buffer for the text of a field in quotes, if the field has doubled quotes. The text of the field is copied into it,
-    /// with one quote for each two.
+    /// A buffer for the text of a field in quotes, if the field has doubled quotes. The text of the field is copied into this buffer,
+    /// and each doubled quote becomes one quote.
     pub unquoted: [u8; LINE_LIMIT],
     /// The instant of the last line whose text names an instant. It is kept only if the task is `Task::Order`.
     pub last: Option<Instant>,

@@ -70,8 +70,9 @@ pub fn put_report<K: Sink>(
     }
 }
 
-/// Makes the parts of the report of the line, but writes nothing. The function is needed only for the proof: its contract states that
-/// for each line there are bytes that are its report. If nothing is written about the line, its report is empty.
+/// Makes the parts of the report of the line, but writes nothing. The function is needed only for the proof. The contract of the
+/// function states that a report of the line exists, whatever the request and the number of the line are. If nothing is written about
+/// the line, its report is empty.
 pub fn explain(verdict: &Verdict<'_>) {
     match verdict {
         Verdict::Accepted | Verdict::Timed(_) | Verdict::Skipped => {}

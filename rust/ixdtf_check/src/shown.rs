@@ -1,7 +1,7 @@
 // Made by tools/to_rust.py of crates/ixdtf_checks/src/shown.rt. Do not edit.
 
-//! Writes messages about refused texts. A message can show a part of the text, a character, or a byte. This module makes the bytes
-//! that show it.
+//! Writes messages about refused texts. A message can show a part of the text, a character, or a byte. This module makes the bytes of
+//! what a message shows, such as `U+202F (narrow no-break space)` for a character, or `the byte 0xE9` for a byte.
 //!
 //! `Display` of [`Shown`] writes the same bytes. The program makes them without `core::fmt`, because that is faster.
 
@@ -83,7 +83,8 @@ fn add_named_number<const SIZE: usize>(room: &mut [u8; SIZE], at: usize, charact
     add_bytes(room, name, look_alike(character))
 }
 
-/// Adds the value of a byte, such as `the byte 0xE9`. A message shows a byte if the bytes of the text are not UTF-8 there.
+/// Adds the value of a byte, such as `the byte 0xE9`. A message shows a byte if no character in UTF-8 begins at the position that the
+/// message is about.
 #[cold]
 #[inline(never)]
 pub fn add_byte_number<const SIZE: usize>(room: &mut [u8; SIZE], at: usize, byte: u8) -> usize {
