@@ -74,7 +74,7 @@ FOR_C = ('#![cfg_attr(not(test), no_std)]\n', '\n#[cfg(not(test))]\nmod abort;\n
 LAYERS = {
     'ixdtf_instants': 'civil days display instant'.split(),
     'ixdtf_grammar': 'encoding error hint instants located message packed part pointed reason records parsers/profile wording'.split(),
-    'ixdtf_reading': 'cursor classes stop parsers/annotations parsers/letters'.split(),
+    'ixdtf_reading': 'classes code codes cursor stop parsers/annotations parsers/letters'.split(),
     'ixdtf_times': 'parsers/date_times parsers/dates parsers/months parsers/offsets parsers/rfc3339 parsers/time'.split(),
     'ixdtf_brackets': 'parsers/brackets parsers/exact_zones parsers/zone'.split(),
     'ixdtf_durations': 'parsers/date_groups parsers/duration parsers/group_numbers parsers/time_groups'.split(),

@@ -1,8 +1,9 @@
 //! A cursor: the remaining code units of a source.
 //!
 //! A cursor has no index. It keeps the remaining code units as one slice, so it cannot point past the end. When a
-//! function that reads a part of a text returns an error, its cursor is at the position of the error. The readers that
-//! users call work on a second cursor. If such a reader fails, the cursor of the parser is unchanged.
+//! function that reads a part of a text returns an error, its cursor is at the position of the error. Users of the library
+//! call the readers of a parser. Each of these readers works on a second cursor. If such a reader fails, the cursor of the
+//! parser is unchanged.
 
 #![tactic(auto, unfolding(crate::specs::reading::Looks::look_readings))]
 
@@ -17,7 +18,8 @@ ghost use Rattle.ixdtf_reading.specs.reading.Looks.{seen, next_by, peek_by, digi
 
 use crate::classes::two_digit_number;
 use crate::looks::Looks;
-use crate::stop::{FromStop, Next, StopAt, code_of};
+use crate::codes::{Next, code_of};
+use crate::stop::{FromStop, StopAt};
 use ixdtf_grammar::Reason;
 use ixdtf_grammar::encoding::EncodingType;
 use std::fmt;
@@ -92,8 +94,9 @@ impl<'a, T: EncodingType> Cursor<'a, T> {
     /// Returns a second cursor at the same position. `self` keeps its remaining input.
     ///
     /// A function that must consume nothing on failure works on the second cursor. A function with a loop, or with a call
-    /// that is not inlined, also works on the second cursor: a local cursor can stay in registers. When a function works on
-    /// the second cursor only for this reason, it stores that cursor in `self` before it ends, also after an error.
+    /// that is not inlined, also works on the second cursor: a local cursor can stay in registers. Some functions use
+    /// the second cursor only because it can stay in registers. Before such a function ends, it stores the second cursor
+    /// in `self`. It does so after an error too.
     #[inline(always)]
     pub fn fork(&mut self) -> Self
         // The count of accesses moves to the second cursor.
@@ -131,7 +134,7 @@ impl<'a, T: EncodingType> Cursor<'a, T> {
         self.looks = here.looks;
     }
 
-    /// Ends a function that worked on a second cursor, `here`.
+    /// Does the last step of a function that worked on a second cursor. `here` is the second cursor.
     ///
     /// If `read` is `Ok`, `self` continues where `here` is. If `read` is a `Reason`, `self` keeps its remaining input,
     /// and `settle` returns the error of the `Reason`. The position of this error is the number of code units from `self`
@@ -165,7 +168,9 @@ impl<'a, T: EncodingType> Cursor<'a, T> {
         }
     }
 
-    /// Returns what follows, for the error of a `Reason`.
+    /// Returns what is next: the end of the text, a bad code unit, or another code unit. It consumes nothing.
+    ///
+    /// One `Reason` can have several errors. The result of `next` decides between them.
     #[inline(always)]
     pub fn next(&mut self) -> Next
         ensures next { IsNext result (map T.letter self.old.rest) }

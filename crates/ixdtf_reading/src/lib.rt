@@ -3,7 +3,7 @@
 //! - `cursor` has the cursor on the remaining input. `looks` has the count of accesses to code units.
 //! - `classes` has the classes of characters. `letters` consumes the code units of one class.
 //! - `annotations` reads keys, values and annotations.
-//! - `stop` has the one-byte errors that the library uses inside.
+//! - `code` has a code of one byte for each error, and `codes` has the tables of the codes. `stop` makes the errors.
 //!
 //! This is a layer of the library `ixdtf`, above `ixdtf_grammar`. `specs/reading` has the *reading functions*. A reading
 //! function is not code, but a definition: it says which result a function of the code must have for each list of code
@@ -16,10 +16,15 @@
 //! - If all code units are 1 to 126, the result is the same for 8-bit and for 16-bit text (`proofs/widths`).
 //!
 //! So the layers above only have to prove that their functions do what the reading functions do.
+//!
+//! In the comments of this crate, a `Reason` says why a reader refuses a text, and a *bad code unit* is a 16-bit code unit outside 1 to
+//! 126.
 #![tactic(auto)]
 
 pub mod annotations;
 pub mod classes;
+pub mod code;
+pub mod codes;
 pub mod cursor;
 pub mod letters;
 pub mod looks;

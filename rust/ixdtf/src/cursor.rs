@@ -7,7 +7,8 @@
 //! users call work on a second cursor. If such a reader fails, the cursor of the parser is unchanged.
 
 use crate::classes::two_digit_number;
-use crate::stop::{FromStop, Next, StopAt, code_of};
+use crate::codes::{Next, code_of};
+use crate::stop::{FromStop, StopAt};
 use crate::Reason;
 use crate::encoding::EncodingType;
 use core::fmt;
@@ -64,8 +65,9 @@ impl<'a, T: EncodingType> Cursor<'a, T> {
     /// Returns a second cursor at the same position. `self` keeps its remaining input.
     ///
     /// A function that must consume nothing on failure works on the second cursor. A function with a loop, or with a call
-    /// that is not inlined, also works on the second cursor: a local cursor can stay in registers. When a function works on
-    /// the second cursor only for this reason, it stores that cursor in `self` before it ends, also after an error.
+    /// that is not inlined, also works on the second cursor: a local cursor can stay in registers. If a function works
+    /// on the second cursor only to keep it in registers, it stores that cursor in `self` before it ends. It does so
+    /// after an error too.
     #[inline(always)]
     pub fn fork(&mut self) -> Self {
         Cursor {
@@ -107,7 +109,9 @@ impl<'a, T: EncodingType> Cursor<'a, T> {
         }
     }
 
-    /// Returns what follows, for the error of a `Reason`.
+    /// Returns what is next: the end of the text, a bad code unit, or another code unit. It consumes nothing.
+    ///
+    /// One `Reason` can have several errors. The result of `next` decides between them.
     #[inline(always)]
     pub fn next(&mut self) -> Next {
         match self.look_at(0, Reason::YearStart) {

@@ -10,6 +10,8 @@ extern crate self as ixdtf;
 
 mod civil;
 mod classes;
+mod code;
+mod codes;
 mod cursor;
 mod days;
 mod display;

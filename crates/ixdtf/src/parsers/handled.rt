@@ -19,7 +19,8 @@ use crate::parsers::{
 use crate::{LocatedError, ParseError, ParserResult};
 use ixdtf_grammar::encoding::EncodingType;
 use ixdtf_grammar::records::{Annotation, IxdtfParseRecord};
-use ixdtf_reading::stop::{Next, StopAt, code_of, error_of_stop};
+use ixdtf_reading::codes::{Next, code_of};
+use ixdtf_reading::stop::{StopAt, error_of_stop};
 
 impl<'a, T: EncodingType> IxdtfParser<'a, T> {
     /// Parses the remaining input like [`parse`](Self::parse), and lets a handler decide about each annotation.

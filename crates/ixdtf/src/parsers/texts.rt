@@ -21,8 +21,9 @@ use ixdtf_grammar::Reason;
 use ixdtf_grammar::encoding::EncodingType;
 use ixdtf_grammar::profile::Profile;
 use ixdtf_grammar::records::{Annotation, IxdtfParseRecord};
+use ixdtf_reading::codes::code_of;
 use ixdtf_reading::cursor::Cursor;
-use ixdtf_reading::stop::{StopAt, code_of};
+use ixdtf_reading::stop::StopAt;
 use ixdtf_times::offsets::AfterCore;
 
 impl<'a, T: EncodingType> IxdtfParser<'a, T> {

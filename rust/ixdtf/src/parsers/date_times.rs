@@ -13,8 +13,8 @@ use crate::cursor::Cursor;
 
 /// Consumes a date, a separator and a time in the first nineteen columns.
 ///
-/// Returns `None`, and consumes nothing, if a column does not fit, or if the numbers are not a date or not a time. If
-/// fewer than nineteen code units remain, none of them is read.
+/// Returns `None`, and consumes nothing, if a column does not fit, if the date does not exist, or if a number of the
+/// time is out of range. If fewer than nineteen code units remain, none of them is read.
 #[inline(always)]
 pub fn take_fixed_date_time<'a, T: EncodingType>(
     cursor: &mut Cursor<'a, T>,

@@ -9,7 +9,8 @@ use crate::parsers::{
 use crate::{LocatedError, ParseError, ParserResult};
 use crate::encoding::EncodingType;
 use crate::records::{Annotation, IxdtfParseRecord};
-use crate::stop::{Next, StopAt, code_of, error_of_stop};
+use crate::codes::{Next, code_of};
+use crate::stop::{StopAt, error_of_stop};
 
 impl<'a, T: EncodingType> IxdtfParser<'a, T> {
     /// Parses the remaining input like [`parse`](Self::parse), and lets a handler decide about each annotation.

@@ -12,7 +12,7 @@ use crate::records::{
 use crate::classes::{is_annotation_open, is_ascii_sign, is_hyphen};
 use crate::cursor::Cursor;
 
-/// What follows a core.
+/// What follows the core of a text. The core is the part of a text before its first `[`.
 #[derive(Clone, Copy)]
 pub enum AfterCore {
     /// The end of the text.

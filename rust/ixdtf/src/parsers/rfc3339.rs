@@ -310,7 +310,7 @@ pub fn parse_rfc3339_text<'a, T: EncodingType>(
     cursor.close(stop_after_offset(found.offset))
 }
 
-/// Returns the `Reason` of the table line after a date-time with this offset.
+/// Returns the `Reason` for an error directly after a date-time with this offset.
 #[inline(always)]
 pub fn stop_after_offset(offset: Option<UtcOffsetRecordOrZ>) -> Reason {
     match offset {

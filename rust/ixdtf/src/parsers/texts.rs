@@ -11,8 +11,9 @@ use crate::Reason;
 use crate::encoding::EncodingType;
 use crate::parsers::profile::Profile;
 use crate::records::{Annotation, IxdtfParseRecord};
+use crate::codes::code_of;
 use crate::cursor::Cursor;
-use crate::stop::{StopAt, code_of};
+use crate::stop::StopAt;
 use crate::parsers::offsets::AfterCore;
 
 impl<'a, T: EncodingType> IxdtfParser<'a, T> {

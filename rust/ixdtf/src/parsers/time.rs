@@ -40,7 +40,8 @@ impl Clock {
         }
     }
 
-    /// Returns the `Reason` of the table line after a time of this shape.
+    /// Returns the `Reason` for an error directly after a time, or an offset, with these parts. `self` says which of the
+    /// two it is.
     #[inline(always)]
     pub fn stop_after(self, shape: TimeShape) -> Reason {
         match shape {
@@ -62,7 +63,7 @@ impl Clock {
         }
     }
 
-    /// Returns the `Reason` of a table line of the clock.
+    /// Returns the `Reason` that `line` has for this clock.
     #[inline(always)]
     pub fn stop(self, line: ClockLine) -> Reason {
         match self {
@@ -73,7 +74,8 @@ impl Clock {
     }
 }
 
-/// A table line of times, or of offsets after their sign.
+/// A line of the fault table (docs/FAULTS.md) about times, and about offsets after their sign. Each of these lines has one
+/// `Reason` for each `Clock`.
 #[derive(Clone, Copy)]
 pub enum ClockLine {
     HourStart,

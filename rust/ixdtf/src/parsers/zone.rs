@@ -1,6 +1,7 @@
 // Made by tools/to_rust.py of crates/ixdtf_brackets/src/zone.rt. Do not edit.
 
-//! Functions that read names of zones, and texts that are a time zone.
+//! Functions that read names of time zones, and offsets without seconds that are time zones. Some of them expect the
+//! end of the text after the zone, and some expect the `]` of a bracket.
 
 use crate::Reason;
 use crate::encoding::EncodingType;
