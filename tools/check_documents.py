@@ -12,7 +12,7 @@ must be those with the contracts of its tables. Each line of a table must begin 
 example is a text with the position of its error (`place` in this file). It must have this error at this position in the model, and in
 places.tsv, in which a person counted the positions. The errors must have the texts that they have in the code and in the model, and the
 readers that they have in the model. Each reason must have one row with its messages, and these must be the messages that wording.rt has.
-The hints must be those that hint.rt has, and each example of a hint must have this hint in the model.
+The hints must be those that hint.rt and the files in hint/ have, and each example of a hint must have this hint in the model.
 
 (c) Snippets. Each block of Rattle or Rust in README.md and docs/CALLING.md must be in a crate of tests or in an example of rust/ixdtf,
 which are compiled: all of its items, word by word, and all of its imports. The blocks in the READMEs of `rust/` are tests of their crates.
@@ -1028,9 +1028,14 @@ HINT = re.compile(rf'\b({"|".join(SHOWN_IN_HINTS)})\(\s*"((?:[^"\\]|\\.)*)"')
 IN_A_HINT = {'{digit}': '[0-9]', '{front}': '[0-9]+', '{char}': '.+'}
 
 
+def files_of_hints(tree: Tree) -> list[str]:
+    """The files of the code that have hints: hint.rt and those in hint/."""
+    return [it for it in tree.files if it == GRAMMAR + 'hint.rt' or it.startswith(GRAMMAR + 'hint/')]
+
+
 def hints_in_code(tree: Tree) -> set[str]:
     """The hints of the code, as the table has them."""
-    return {words + SHOWN_IN_HINTS[kind] for kind, words in HINT.findall(tree.read(GRAMMAR + 'hint.rt'))}
+    return {words + SHOWN_IN_HINTS[kind] for path in files_of_hints(tree) for kind, words in HINT.findall(tree.read(path))}
 
 
 def is_hint_of(hint: str, line: str) -> bool:

@@ -391,7 +391,8 @@ class Repository(unittest.TestCase):
 
     def test_hints_in_code(self):
         """All strings of the code from which hints are made are found."""
-        code = self.TREE.read(check.GRAMMAR + 'hint.rt').partition('impl Hint {')[2]
+        texts = [self.TREE.read(it) for it in check.files_of_hints(self.TREE)]
+        code = ''.join(it.partition('impl Hint {')[2] or it for it in texts)
         strings = {it for it in re.findall(r'"((?:[^"\\]|\\.)*)"', code) if it != '`'}
         found = check.hints_in_code(self.TREE)
         self.assertEqual({it.partition('{')[0] for it in found}, {it.partition('{')[0] for it in strings})

@@ -98,9 +98,11 @@ class Crate:
         """The path of a module in the crate that is made."""
         if not self.layer:
             return module
-        if (self.layer, module) not in PLACES:
+        # a module in a module of the layer goes with it
+        outer, slash, inner = module.partition('/')
+        if (self.layer, outer) not in PLACES:
             raise SystemExit(f'to_rust.py: {self.source}/{module}.rt: expected a module of LAYERS, found {module}')
-        return PLACES[self.layer, module]
+        return PLACES[self.layer, outer] + slash + inner
 
     def omits(self, module):
         """Whether a module, or a module that contains it, is left out."""
