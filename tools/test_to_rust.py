@@ -24,7 +24,8 @@ PAIRS = [('crates/ixdtf/src', 'rust/ixdtf/src'), ('crates/ixdtf_tests/src', 'rus
          ('crates/ixdtf_c/src', 'rust/ixdtf_c/src')]
 # the layers of the library, whose modules are at the root of the crate that is made, or in `parsers`
 LAYERS = ['instants', 'grammar', 'reading', 'times', 'brackets', 'durations']
-AT_THE_ROOT = {'encoding', 'error', 'located', 'packed', 'pointed', 'records', 'code', 'codes', 'cursor', 'stop'}
+AT_THE_ROOT = {'civil', 'days', 'display', 'instant', 'encoding', 'error', 'hint', 'instants', 'located', 'message', 'packed', 'part', 'pointed',
+               'reason', 'records', 'wording', 'classes', 'code', 'codes', 'cursor', 'stop'}
 PAIRS += [(f'crates/ixdtf_{layer}/src', 'rust/ixdtf/src') for layer in LAYERS]
 
 
@@ -32,6 +33,15 @@ PAIRS += [(f'crates/ixdtf_{layer}/src', 'rust/ixdtf/src') for layer in LAYERS]
 WITH_ROOTS = {'crates/ixdtf/src', 'crates/ixdtf_print/src', 'crates/ixdtf_buffers/src', 'crates/ixdtf_c/src'}
 # files that a person wrote, by their modules
 BY_HAND = {'main', 'tests/printing', 'abort', 'slices', 'place'}
+# the modules that the tool leaves out, by the folder of the crate. A module in such a module is left out too.
+LEFT_OUT = {'crates/ixdtf/src': {'laws'}, 'crates/ixdtf_tests/src': {'tests/laws', 'tests/printed_durations', 'tests/printed_kinds'},
+            'crates/ixdtf_print/src': {'laws'}, 'crates/ixdtf_answers/src': {'laws'}, 'crates/ixdtf_buffers/src': {'memory'},
+            'crates/ixdtf_checks/src': {'laws'}, 'crates/ixdtf_c/src': {'laws', 'turns', 'tests'}, 'crates/ixdtf_reading/src': {'looks'}}
+
+
+def is_left_out(source, path):
+    """Whether the tool leaves out the module with this path, or a module that contains it."""
+    return any(path == it or path.startswith(it + '/') for it in LEFT_OUT.get(source, ()))
 
 
 def tokens_of(text):
@@ -444,9 +454,9 @@ class SameTokens(unittest.TestCase):
             for folder, _, names in os.walk(os.path.join(TOP, source)):
                 for name in names:
                     path = os.path.relpath(os.path.join(folder, name), os.path.join(TOP, source))[:-3]
-                    place = path if source not in layers or path in AT_THE_ROOT else f'parsers/{path}'
-                    made = os.path.join(TOP, target, place + '.rs')
-                    if path == 'lib' and source not in WITH_ROOTS or path in BY_HAND or not os.path.exists(made):
+                    at_root = source not in layers or path.partition('/')[0] in AT_THE_ROOT
+                    made = os.path.join(TOP, target, (path if at_root else f'parsers/{path}') + '.rs')
+                    if path == 'lib' and source not in WITH_ROOTS or path in BY_HAND or is_left_out(source, path):
                         continue
                     with open(os.path.join(folder, name), encoding='utf-8') as file:
                         text = file.read()
@@ -454,7 +464,7 @@ class SameTokens(unittest.TestCase):
                         heads = source == 'crates/ixdtf/src' and path in ('lib', 'parsers')
                         self.assertEqual(difference(text, file.read(), heads), '', f'{source}/{path}.rt')
                     compared += 1
-        self.assertGreater(compared, 60)
+        self.assertGreater(compared, 150)
 
     def test_a_difference_is_seen(self):
         self.assertNotEqual(difference('fn one() -> u8 { 1 }', 'fn one() -> u8 { 2 }'), '')
