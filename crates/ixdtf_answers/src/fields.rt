@@ -233,7 +233,9 @@ fn add_seconds(room: &mut [u8; ROOM], at: usize, seconds: i64) -> usize
     }
 }
 
-/// Adds the sign of a duration, its date if it has one, and its time if it has one.
+/// Adds the sign of a duration. If the duration has a date part, adds the years, months, weeks and days. If the duration has a time
+/// part, adds the hours of this part. A time part can also have minutes, seconds and a fraction. The function adds each of these if
+/// the time part has it.
 pub fn add_duration(room: &mut [u8; ROOM], at: usize, duration: DurationParseRecord) -> usize
     requires { at + 174 ≤ ROOM }
     ensures place { result ≤ at + 174 }

@@ -11,8 +11,8 @@ use ixdtf_buffers::memory::{MemorySink, MemorySource};
 /// Answers each line of the bytes, and writes the answers to an empty sink in memory.
 ///
 /// The only possible error is that of a write. After this error, the sink is full. Until the error, a prefix of the input was read.
-/// The bytes in the sink are a prefix of the answers to the lines of the bytes that were read. So the last answer in the sink can be
-/// incomplete.
+/// The answers to all lines of this prefix, one after the other, are one text. The bytes in the sink are the beginning of this text.
+/// So the last answer in the sink can be incomplete.
 pub fn run_in_memory<const SIZE: usize>(
     bytes: &[u8],
     sink: &mut MemorySink<SIZE>,

@@ -2,9 +2,11 @@
 
 ghost use Rattle.ixdtf_c.specs.Adding.{Adds};
 
-/// Writes the bytes after the first `at` bytes of the array, if they fit. Returns the number of bytes with them, also if they do not fit.
+/// Writes `bytes` to the array, from index `at` on, if they fit. Returns `at` plus the number of the bytes, even if the bytes do
+/// not fit.
 ///
-/// So a function that adds all parts of a text returns the length of this text, even if the array is empty.
+/// A function can add the parts of a text one after the other. The `at` of each call is then the number that the call before it
+/// returned. If the first call gets 0, the last call returns the length of the whole text, even if the array is empty.
 pub fn add(out: &mut [u8], at: usize, bytes: &[u8]) -> usize
     ensures { Adds out.old out.new at result bytes.now }
 {

@@ -6,15 +6,18 @@
 //! - `read`: Each text has one outcome: the record that the grammar gives for the text, or an error with its position. The
 //!   outcome decides the number that is returned. If this number is 0, the outcome also decides every field of the record.
 //!   After an error, it decides only the fields `location` and `place`. Five readers are called the *text readers*:
-//!   `ixdtf_parse`, and the readers of a year and a month, of a month and a day, of a time, and of a duration. Under one
-//!   profile, at most one of these five readers accepts a text: if one of them returns 0, the other four refuse the text.
-//! - `lists`: The outcome is that of a reader whose handler drops each annotation. As in `read`, this outcome decides the
-//!   number that is returned, and the fields of the record. The clause also says that `count` is the number of annotations
-//!   before the end of the text, or before its error. If the array has room for `n` annotations, the first `n` of them are in
-//!   the array, in order, or all of them if there are fewer.
+//!   `ixdtf_parse`, and the readers of a year and a month, of a month and a day, of a time, and of a duration. If these five
+//!   readers follow the same profile, at most one of them accepts a text. So if one of them returns 0, the other four refuse
+//!   the text.
+//! - `lists`: In Rust, a reader can call a function of the caller, a *handler*, for each annotation. The outcome here is
+//!   that of such a reader, with a handler that drops each annotation. As in `read`, this outcome decides the number that
+//!   is returned, and the fields of the record. The clause also says that `count` is the number of annotations before the
+//!   end of the text, or before its error. The array has these annotations, in order. If the array is too short for all
+//!   of them, it has only as many as fit, from the first one on.
 //! - `few`: Five times the number of annotations is at most the length of the text. So an array of `length / 5` elements is
 //!   always long enough.
-//! - `unchanged`: After an error, the record is unchanged, also its slices, except for `location` and `place`.
+//! - `unchanged`: After an error, only the fields `location` and `place` of the record can be different. Every other field
+//!   has its old value. This is so for slices too.
 
 ghost use Rattle.std.specs.Prelude.{◌≡◌, ◌≢◌, ◌+◌, ◌*◌, ◌≤◌, length, map, IsSomeAnd};
 ghost use Rattle.ixdtf.specs.language.Languages.Found.{dated, shifted, identified, named};

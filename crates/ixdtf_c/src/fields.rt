@@ -16,8 +16,8 @@ use ixdtf::records::Fraction;
 
 /// Returns the nanoseconds of a fraction of a second, such as 250000000 for `fraction` 25 and `digits` 2.
 ///
-/// Drops all digits after the ninth. Returns 0 if `digits` is 0, or if `fraction` has more digits than `digits` says, or more
-/// than 18.
+/// Drops all digits after the ninth. Returns 0 if `digits` is 0. Also returns 0 if `fraction` has more digits than `digits`
+/// says, or if `fraction` has more than 18 digits.
 #[unsafe(no_mangle)]
 pub extern "C" fn ixdtf_nanoseconds(fraction: u64, digits: u8) -> u32
     ensures value { (1 ≤ digits) × (fraction < 10 ^ min digits 18) →

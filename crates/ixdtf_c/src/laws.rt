@@ -9,15 +9,16 @@ ghost use Rattle.ixdtf_c.specs.Replying.{ReplyingGives, ReplyingIsHandling};
 use ixdtf::encoding::EncodingType;
 use ixdtf::records::Annotation;
 
-/// States that replying to listed annotations has the same outcome as a handler, except for the position of an error.
+/// States that a caller that lists the annotations and replies to them gets the same outcome as a reader with a
+/// handler. Only the position of an error can be different.
 ///
 /// A caller lists all annotations of a text, replies to them in order, and stops at the first reply that is refused. A
 /// *beginning* of a list is any number of its elements, from the first one on.
 ///
-/// - `gives`, `wide_gives`: For some number n, the outcome of the caller follows from the text, the first n listed annotations
-///   and the first n replies. The definition `GivesResult` says what *follows* means. It uses `GivesRecord` if the outcome is a
-///   record, and `GivesFault` if it is an error. The outcome does not include the position of an error. The contracts of the
-///   readers with a handler use the same two definitions.
+/// - `gives`, `wide_gives`: There is a number n for which the outcome of the caller follows from three things: the text,
+///   the first n listed annotations, and the first n replies. The definition `GivesResult` says what *follows* means. It
+///   uses `GivesRecord` if the outcome is a record, and `GivesFault` if it is an error. The outcome does not include the
+///   position of an error. The contracts of the readers with a handler use the same two definitions.
 /// - `handling`, `wide_handling`: Suppose that another reader reads the same text. This reader has a handler, and is of the
 ///   same kind as the reader that listed the annotations. Suppose also that the replies of the handler, in order, are a
 ///   beginning of the caller's list of replies. Then the reader with the handler has the same outcome as the caller, except

@@ -19,8 +19,8 @@ use ixdtf::records::{
 
 /// Returns the fraction with `digits` digits, whose first 18 digits are the number `value`.
 ///
-/// Returns `Some(None)` if `digits` is 0. Otherwise returns `None` if `value` has more digits than `digits` says, or more than
-/// 18.
+/// Returns `Some(None)` if `digits` is 0. Otherwise returns `None` if `value` has more digits than `digits` says, or if
+/// `value` has more than 18 digits.
 pub fn fraction_of(digits: u8, value: u64) -> Option<Option<Fraction>>
     ensures found { IfSome result (λ fraction. fraction ≡ fraction_by digits value) }
     ensures digits { OnSome result (HasDigits (fraction_by digits value)) }

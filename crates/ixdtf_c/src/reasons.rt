@@ -302,7 +302,11 @@ fn name_and_zero(number: u32) -> &'static [u8]
     NAMES[number as usize - 1]
 }
 
-/// Writes the name of a reason, such as `month_range` for the number 7. It is the name of the line of the fault table.
+/// Writes the name of a reason, such as `month_range` for the number 7. It is the name of the variant of `Reason` in
+/// lowercase letters, with a `_` between two words. The comment of the variant says which line of the fault table
+/// (docs/FAULTS.md) the reason belongs to. The part of an offset after the sign is written like a time. So the table has the
+/// same lines for times and for offsets. Each of these lines has three reasons: one for times, one for offsets, and one for
+/// offsets that are time zones.
 ///
 /// If no reason has the number, the name is empty. A NUL follows the name in memory. The length of the slice does not count it.
 #[unsafe(no_mangle)]

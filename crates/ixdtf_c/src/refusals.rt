@@ -1,4 +1,4 @@
-//! The error of a text in each reader, with its position and its reason.
+//! Functions that return the error with which a reader refuses a text. The error has a position and a reason.
 
 ghost use Rattle.std.specs.Prelude.{map};
 ghost use Rattle.ixdtf.specs.language.Readers.Reader.{bracketed, parse_duration, parse_iana_identifier, parse_identifier, parse_offset, parse_rfc3339};

@@ -1,6 +1,7 @@
-//! Adds to a report what a message shows of a refused text.
+//! Adds a message to a report. A message can show a part of the refused text, a character or a byte.
 //!
-//! `Display` of [`Shown`] writes the same bytes. But its contract does not say when it succeeds, and these functions always do.
+//! `Display` of [`Message`] and of [`Shown`] writes the same bytes. But the contract of `Display` does not say when `Display`
+//! succeeds. The functions of this file always succeed.
 
 ghost use Rattle.std.specs.Prelude.{◌≡◌, ◌==◌, ◌<◌, ◌++◌, [], true, codes, if◌then◌else◌};
 ghost use Rattle.std.specs.Fmt.{digits, digit_glyph};

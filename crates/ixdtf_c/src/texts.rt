@@ -25,7 +25,8 @@ use crate::widths::{RecordOf, ZoneOf};
 use ixdtf::encoding::EncodingType;
 use ixdtf_print::{PrintError, duration_length, offset_length};
 
-/// A value of C of a kind that has a printer in the library, for code units of the encoding `T`.
+/// A value from C that the library can print in the encoding `T`. It is a duration, an offset, a zone or a record. A record can
+/// be printed as four kinds of text. For each of these kinds there is a struct that contains the record, such as [`AsTime`].
 pub trait HasText<T: EncodingType> {
     /// States that there is a text for which the reader returns this value. The reader is the one for values of this kind.
     ghost printable: { Self → Type 0 };

@@ -1,5 +1,5 @@
-//! A caller that has a handler, but calls only functions of the library for C. It shows that a list of annotations can replace
-//! a reader with a handler.
+//! A caller that has a handler, but calls only functions of the library for C. It shows that a program does not need a reader
+//! with a handler: a reader that lists the annotations, and a function that checks replies, are enough.
 
 ghost use Rattle.std.specs.Prelude.{◌≡◌, ◌≢◌, ◌≤◌, None, length, map, option_map, Result};
 ghost use Rattle.ixdtf_grammar.specs.declared.profile.Profile.TheVariants.{Crate};
@@ -93,15 +93,16 @@ fn units_of<'a>(calendar: &Calendar<'a>) -> &'a [u8]
 /// Reads a date, or a date and a time, and calls the handler for the annotations, in order. The functions for C read the text
 /// and check the replies.
 ///
-/// This function calls [`ixdtf_parse_with_annotations`], which lists the annotations, and writes to `count` how many there are.
+/// This function calls [`ixdtf_parse_with_annotations`]. That function lists the annotations, and writes their number to `count`.
 /// If the array is too short for all annotations, the handler is not called, and the function returns the number that
 /// [`ixdtf_parse_with_annotations`] returned. If this number is 0, the record has no calendar.
 ///
-/// If the array is long enough, this function calls the handler for each annotation, and passes each reply to [`ixdtf_reply`].
-/// It stops at the first reply that is refused, and returns the number of the error. If no reply is refused, it returns the
-/// number that [`ixdtf_parse_with_annotations`] returned. If this number is 0, the record has the calendar that was kept, if
-/// there is one. If the array is long enough, the outcome is always the one of `parse_with_annotation_handler`, except for the
-/// position of an error: `place` is always the one that [`ixdtf_parse_with_annotations`] wrote, also if a reply is refused.
+/// If the array is long enough, this function calls the handler for each annotation, and passes each reply to
+/// [`ixdtf_reply`]. It stops at the first reply that is refused, and returns the number of the error. If no reply is
+/// refused, it returns the number that [`ixdtf_parse_with_annotations`] returned. If this number is 0, the record has the
+/// calendar that was kept, if there is one. If the array is long enough, the outcome is that of
+/// `parse_with_annotation_handler`, except for the position of an error. The field `place` always has the value that
+/// [`ixdtf_parse_with_annotations`] wrote. This is so even if a reply is refused.
 ///
 /// After an error, the record is unchanged, except for `location` and `place`.
 pub fn parse_in_turn<'a, F>(

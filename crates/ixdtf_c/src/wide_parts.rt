@@ -6,7 +6,7 @@ ghost use Rattle.ixdtf.specs.language.Letters.{digit};
 
 use ixdtf::{Reason, WrongPart};
 
-/// Returns the part of the text that is wrong, if the position of the error is `place`.
+/// Returns the part of the text that is wrong. The position of the error is `place`, and its reason is `reason`.
 pub fn part_of(reason: Reason, place: usize, text: &[u16]) -> WrongPart
     ensures part { IsPart (extent_of reason) text.now (min place (length text.now)) result }
     ensures within { (result.begin ≤ result.end) × (result.end ≤ length text.now) }

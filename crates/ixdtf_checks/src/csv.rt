@@ -1,4 +1,4 @@
-//! The fields of a record of RFC 4180, of which some may be in quotes.
+//! The fields of a record of RFC 4180. Some of these fields may be in quotes.
 ghost use Rattle.std.specs.Prelude.{◌≡◌, ◌≤◌, ◌+◌, ◌<◌, ◌^◌, ℕ, true, false, length, IfOk, IfErr, IfSome, OnOk, unwrap_or};
 ghost use Rattle.ixdtf_buffers.specs.Adding.{Adds};
 ghost use Rattle.ixdtf_checks.specs.Csv.{Cell, IsBad, IsCell, IsRecord, begins_quoted, is_escaped, quotes_in, spelled, undoubled};
@@ -44,7 +44,7 @@ pub enum Ending {
     Bad(Broken),
 }
 
-/// How far `walk` went.
+/// How far the function `walk` went in a line. The function tries to pass over a given number of fields at the beginning of the line.
 #[derive(Clone, Copy)]
 pub enum Walked {
     /// To the field that begins at this index.

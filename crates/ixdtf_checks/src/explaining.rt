@@ -1,4 +1,4 @@
-//! Makes what a report says about a refused line.
+//! Makes the contents of the report of a refused line, from the cause for which the line is refused.
 ghost use Rattle.std.specs.Prelude.{◌≡◌, ◌≤◌, ◌&&◌, [], Some, drop, length, option_map};
 ghost use Rattle.ixdtf_grammar.specs.declared.part.WrongPart.{WrongPart};
 ghost use Rattle.ixdtf_grammar.specs.Messages.{message_text};
@@ -135,7 +135,7 @@ fn hint_about(unread: Unread<'_>) -> Option<Message<'_>>
 /// Returns `true` if both conditions are met:
 ///
 /// - Texts of the kind can have an offset after their time (`unread.has_offset`).
-/// - From the beginning of the part that is wrong on, the text has a space, and then the beginning of an offset.
+/// - The text has a space where the part that is wrong begins. Directly after this space, the text has the beginning of an offset.
 #[inline(always)]
 pub fn has_space(unread: &Unread<'_>, wrong: WrongPart) -> bool
     requires { wrong.begin ≤ length unread.now.part.text.now }
@@ -187,8 +187,8 @@ fn message_of_quoting(quoting: Quoting) -> &'static str
     }
 }
 
-/// Returns the name of the reason, which an object of JSON contains. If a reader refuses the text, the name is that of `Reason::name`.
-/// This crate defines the other names, such as `line_too_long`.
+/// Returns the name of the reason. A report as an object of JSON contains this name. For `Why::Unread`, it is the name that
+/// `Reason::name` returns. This crate defines the names of the other variants of `Why`, such as `line_too_long`.
 pub fn name_of(why: Why) -> &'static str
     ensures { result.now ≡ why_name why }
 {

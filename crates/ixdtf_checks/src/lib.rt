@@ -2,7 +2,8 @@
 //!
 //! The function `check` reads lines from a value with the trait `Read`, and writes the reports about them to a value with the
 //! trait `Write`. The program `ixdtf_check` does the same with files. In the rest of these pages, a *reader* is a function of
-//! the crate `ixdtf` that parses one kind of text.
+//! the crate `ixdtf` that parses one kind of text. If a reader accepts a text, the reader returns a value with the parts of this
+//! text. The *canonical text* is the text that the crate `ixdtf_print` prints for this value.
 #![tactic(auto)]
 
 pub mod arguments;

@@ -25,7 +25,7 @@ use ixdtf::records::TimeZoneRecord;
 /// Reads the text as a text of the kind, and prints its canonical text to `printed`. Returns the error with its position, if the
 /// text is refused.
 ///
-/// Of the functions that this one calls, only the one for date-times is inlined, because most texts are date-times.
+/// The function for the kind `date-time` is inlined, because most texts are of this kind. The function for the other kinds is not inlined.
 #[inline(always)]
 pub fn read_to_print(
     kind: Kind,

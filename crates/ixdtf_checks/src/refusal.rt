@@ -6,7 +6,7 @@ use ixdtf::{Message, Reason, WrongPart};
 /// What a report says about a refused line.
 #[derive(Clone, Copy)]
 pub struct Refusal<'a> {
-    /// The position in the line at which it is refused, in bytes, counted from 1.
+    /// The column at which the line is refused. Columns are counted in bytes, from 1.
     pub column: usize,
     /// The column after the last byte of the part that is wrong. It is equal to `column` if this part is empty, or if the line or
     /// its text is refused as a whole.

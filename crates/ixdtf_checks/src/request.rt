@@ -35,7 +35,7 @@ pub enum Extent {
     /// At the end of a later field. The value is the number of fields of the text after its first field: it is 1 if the text is
     /// two fields. The separators between the fields belong to the text.
     More(usize),
-    /// At the end of this field of a record of RFC 4180. The field may be in quotes.
+    /// At the end of this field. The line must be a record of RFC 4180, and the field may be in quotes.
     Csv,
 }
 
@@ -70,7 +70,7 @@ pub struct Request<'n> {
     pub name: &'n str,
     /// What the check does with each text.
     pub task: Task,
-    /// The profile that the readers use.
+    /// The profile that the readers use. A profile is a set of rules for the texts.
     pub profile: Profile,
     /// Says where the text of a line is. If this is `None`, the complete line is the text.
     pub field: Option<Field>,
@@ -80,6 +80,6 @@ pub struct Request<'n> {
     pub most_reports: u64,
     /// The form of the reports.
     pub format: Format,
-    /// Whether no report is written about a refused line.
+    /// If this is `true`, no reports are written about refused lines.
     pub is_quiet: bool,
 }

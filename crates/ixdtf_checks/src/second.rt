@@ -61,10 +61,10 @@ impl<E: Sink> SecondOutput<'_, E> {
         result
     }
 
-    /// Flushes the sink, if the run ended without an error and no write to this output has failed. `end` is the result of the run over
-    /// the lines. It does not include the flush of this output, which comes later. The result says how the complete check ended. If a
-    /// write to this output has failed, it is `RunError::Write`. Otherwise, if `end` is an error, it is this error. Otherwise, it is
-    /// the result of the flush.
+    /// Flushes the sink, if `end` is not an error and no write to this output has failed. `end` says how the work on the lines ended,
+    /// before the flush of this output. The function returns how the complete check ended. If a write to this output has failed, the
+    /// returned value is `RunError::Write`. Otherwise, if `end` is an error, the returned value is this error. Otherwise, the returned
+    /// value is the result of the flush.
     pub fn finish(&mut self, end: Result<(), RunError>) -> Result<(), RunError>
         ensures same { self.new.output.sink.ghost_name ≡ self.old.output.sink.ghost_name }
         ensures keeps { self.old.output.waiting ≡ []

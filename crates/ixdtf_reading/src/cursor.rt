@@ -17,8 +17,8 @@ ghost use Rattle.ixdtf_reading.specs.reading.FixedPlaces.{letter_place, byte_pla
 ghost use Rattle.ixdtf_reading.specs.reading.Looks.{seen, next_by, peek_by, digit_look, two_digits_by, two_digits_of};
 
 use crate::classes::two_digit_number;
-use crate::looks::Looks;
 use crate::codes::{Next, code_of};
+use crate::looks::Looks;
 use crate::stop::{FromStop, StopAt};
 use ixdtf_grammar::Reason;
 use ixdtf_grammar::encoding::EncodingType;
@@ -248,8 +248,9 @@ impl<'a, T: EncodingType> Cursor<'a, T> {
 
     /// Consumes two digits, and returns their number.
     ///
-    /// One test finds the end of the input, and one comparison tests both digits. Returns `first` if the first digit is
-    /// missing, and `second` if the second one is missing. The cursor is then at the missing digit.
+    /// One test of the length finds whether two code units remain. One comparison finds whether both are digits. Returns
+    /// `first` if the first digit is missing, and `second` if the second one is missing. The cursor is then at the missing
+    /// digit.
     #[inline(always)]
     pub fn two_digits(&mut self, first: Reason, second: Reason) -> Result<u8, Reason>
         ensures digits { Reads T.letter two_digits_of self.old result self.new

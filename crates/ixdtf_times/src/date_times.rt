@@ -22,8 +22,8 @@ use ixdtf_reading::cursor::Cursor;
 
 /// Consumes a date, a separator and a time in the first nineteen columns.
 ///
-/// Returns `None`, and consumes nothing, if a column does not fit, or if the numbers are not a date or not a time. If
-/// fewer than nineteen code units remain, none of them is read.
+/// Returns `None`, and consumes nothing, if a column does not fit, if the date does not exist, or if a number of the
+/// time is out of range. If fewer than nineteen code units remain, none of them is read.
 #[inline(always)]
 #[tactic(auto, using(ixdtf_reading::proofs::code::FixedPlaces::date_time_at_place, ixdtf_reading::proofs::code::FixedPlaces::date_time_stands))]
 pub fn take_fixed_date_time<'a, T: EncodingType>(

@@ -28,7 +28,7 @@ use ixdtf_grammar::records::{
 use ixdtf_reading::classes::{is_annotation_open, is_ascii_sign, is_hyphen};
 use ixdtf_reading::cursor::Cursor;
 
-/// What follows a core.
+/// What follows the core of a text. The core is the part of a text before its first `[`.
 #[derive(Clone, Copy)]
 pub enum AfterCore {
     /// The end of the text.
@@ -38,7 +38,7 @@ pub enum AfterCore {
 }
 
 impl AfterCore {
-    /// Returns whether it is a `[`.
+    /// Returns whether a `[` follows the core.
     #[inline(always)]
     pub fn opens_bracket(self) -> bool
         ensures { result ≡ opens_bracket self }

@@ -38,8 +38,7 @@ use ixdtf_reading::classes::{
 };
 use ixdtf_reading::cursor::Cursor;
 
-/// Consumes a colon. Returns `NonAsciiCodePoint` at a bad code unit, and `stop` at the end of the input and at any other
-/// code unit.
+/// Consumes a colon. Returns `stop` if no colon is next.
 #[inline(always)]
 fn take_colon<'a, T: EncodingType>(cursor: &mut Cursor<'a, T>, stop: Reason) -> Result<u8, Reason>
     ensures colon { Reads T.letter (λ byte. byte) cursor.old result cursor.new
@@ -55,8 +54,7 @@ fn take_colon<'a, T: EncodingType>(cursor: &mut Cursor<'a, T>, stop: Reason) -> 
     }
 }
 
-/// Consumes a hyphen of a date. Returns `at_end` at the end of the input, `NonAsciiCodePoint` at a bad code unit, and
-/// `DateSeparator` at any other code unit.
+/// Consumes a hyphen of a date. Returns `stop` if no hyphen is next.
 #[inline(always)]
 fn take_date_hyphen<'a, T: EncodingType>(
     cursor: &mut Cursor<'a, T>,
@@ -75,8 +73,7 @@ fn take_date_hyphen<'a, T: EncodingType>(
     }
 }
 
-/// Consumes `T` or `t`. Returns `NonAsciiCodePoint` at a bad code unit, and `TimeSeparator` at the end of the input and at
-/// any other code unit.
+/// Consumes `T` or `t`. Returns `AfterDayField` if neither of them is next.
 #[inline(always)]
 fn take_time_letter<'a, T: EncodingType>(cursor: &mut Cursor<'a, T>) -> Result<u8, Reason>
     ensures letter { Reads T.letter (λ byte. byte) cursor.old result cursor.new
@@ -92,10 +89,7 @@ fn take_time_letter<'a, T: EncodingType>(cursor: &mut Cursor<'a, T>) -> Result<u
     }
 }
 
-/// Reads the four digits of a year, and returns their number.
-///
-/// Returns `AbruptDigit` at the end of the input, `NonAsciiCodePoint` at a bad code unit, and `DateYear` at any other code
-/// unit that is not a digit.
+/// Reads the four digits of a year, and returns their number. Returns `FourDigits` if a digit is missing.
 #[inline(always)]
 fn parse_year<'a, T: EncodingType>(cursor: &mut Cursor<'a, T>) -> Result<u16, Reason>
     ensures number { Reads T.letter (λ number. number) cursor.old result cursor.new
@@ -114,7 +108,7 @@ fn parse_year<'a, T: EncodingType>(cursor: &mut Cursor<'a, T>) -> Result<u16, Re
     )
 }
 
-/// Reads a month, 01 to 12. Any other number is `InvalidMonthRange`.
+/// Reads a month. Returns `MonthFieldDigits` if a digit is missing, and `MonthFieldRange` if the month is not 01 to 12.
 #[inline(always)]
 fn parse_month<'a, T: EncodingType>(cursor: &mut Cursor<'a, T>) -> Result<u8, Reason>
     ensures month { Reads T.letter (λ month. month) cursor.old result cursor.new
@@ -125,7 +119,8 @@ fn parse_month<'a, T: EncodingType>(cursor: &mut Cursor<'a, T>) -> Result<u8, Re
     check_month(month, Reason::MonthFieldRange)
 }
 
-/// Reads a day. If the month of the year does not have the day, returns `InvalidDayRange`.
+/// Reads a day. Returns `DayFieldDigits` if a digit is missing, and `DayFieldRange` if the month of the year does not have
+/// the day.
 #[inline(always)]
 fn parse_day<'a, T: EncodingType>(
     cursor: &mut Cursor<'a, T>,
@@ -359,8 +354,8 @@ fn pass_date_and_time<'a, T: EncodingType>(cursor: &mut Cursor<'a, T>) -> Result
     pass_day_and_time(cursor, year, month)
 }
 
-/// Returns the first error of a text that does not begin with a date, then `T` or `t`, and then a time. The text is
-/// read number by number. The function is not inlined, because it is called only for a text with an error.
+/// Returns the `Reason` for the first error of a text that does not begin with a date, then `T` or `t`, and then a time.
+/// The text is read number by number. The function is not inlined, because it is called only for a text with an error.
 #[inline(never)]
 fn first_stop<'a, T: EncodingType>(cursor: &mut Cursor<'a, T>) -> Reason
     requires no_date_time { NoDateTime (map T.letter cursor.old.rest) }
@@ -413,7 +408,7 @@ pub fn parse_rfc3339_text<'a, T: EncodingType>(
     cursor.close(stop_after_offset(found.offset))
 }
 
-/// Returns the `Reason` of the table line after a date-time with this offset.
+/// Returns the `Reason` for an error directly after a date-time with this offset.
 #[inline(always)]
 pub fn stop_after_offset(offset: Option<UtcOffsetRecordOrZ>) -> Reason
     ensures { result ≡ reason_of (line_after_offset offset) }

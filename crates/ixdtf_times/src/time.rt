@@ -59,7 +59,8 @@ impl Clock {
         }
     }
 
-    /// Returns the `Reason` of the table line after a time of this shape.
+    /// Returns the `Reason` for an error directly after a time or an offset. `shape` says which parts the time or the
+    /// offset has. `self` says which of the two it is.
     #[inline(always)]
     pub fn stop_after(self, shape: TimeShape) -> Reason
         ensures { result ≡ reason_of (line_after (clock_of self) (shape_of shape)) }
@@ -85,7 +86,7 @@ impl Clock {
         }
     }
 
-    /// Returns the `Reason` of a table line of the clock.
+    /// Returns the `Reason` of the table line `line` for this clock.
     #[inline(always)]
     pub fn stop(self, line: ClockLine) -> Reason
         ensures { result ≡ reason_of (of_clock (clock_of self) (clock_line_of line)) }
@@ -98,7 +99,8 @@ impl Clock {
     }
 }
 
-/// A table line of times, or of offsets after their sign.
+/// A line of the fault table (docs/FAULTS.md) about times, and about offsets after their sign. Each of these lines has one
+/// `Reason` for each `Clock`.
 #[derive(Clone, Copy)]
 pub enum ClockLine {
     HourStart,

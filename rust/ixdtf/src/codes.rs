@@ -10,7 +10,7 @@ use crate::code::Code;
 use crate::code::Code::*;
 use crate::Reason;
 
-/// What the text has at the position of an error: after the prefix of a line of the fault table.
+/// What the text has at the position of an error. The prefix ends at this position.
 #[derive(Clone, Copy)]
 pub enum Next {
     /// The end of the text.
@@ -25,7 +25,7 @@ pub enum Next {
 /// some of the other code units have another code.
 type Codes = (Code, Code, Code, bool);
 
-/// Returns the code of the error of a reason. `next` is what the text has after the prefix of the reason's line. `brackets` says
+/// Returns the code of the error of a reason. `next` is what the text has at the position of the error. `brackets` says
 /// whether the reader reads brackets.
 #[inline(always)]
 pub fn code_of(reason: Reason, brackets: bool, next: Next) -> Code {

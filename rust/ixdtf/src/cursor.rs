@@ -3,8 +3,9 @@
 //! A cursor: the remaining code units of a source.
 //!
 //! A cursor has no index. It keeps the remaining code units as one slice, so it cannot point past the end. When a
-//! function that reads a part of a text returns an error, its cursor is at the position of the error. The readers that
-//! users call work on a second cursor. If such a reader fails, the cursor of the parser is unchanged.
+//! function that reads a part of a text returns an error, its cursor is at the position of the error. Users of the library
+//! call the readers of a parser. Each of these readers works on a second cursor. If such a reader fails, the cursor of the
+//! parser is unchanged.
 
 use crate::classes::two_digit_number;
 use crate::codes::{Next, code_of};
@@ -65,9 +66,9 @@ impl<'a, T: EncodingType> Cursor<'a, T> {
     /// Returns a second cursor at the same position. `self` keeps its remaining input.
     ///
     /// A function that must consume nothing on failure works on the second cursor. A function with a loop, or with a call
-    /// that is not inlined, also works on the second cursor: a local cursor can stay in registers. If a function works
-    /// on the second cursor only to keep it in registers, it stores that cursor in `self` before it ends. It does so
-    /// after an error too.
+    /// that is not inlined, also works on the second cursor: a local cursor can stay in registers. Some functions use
+    /// the second cursor only because it can stay in registers. Before such a function ends, it stores the second cursor
+    /// in `self`. It does so after an error too.
     #[inline(always)]
     pub fn fork(&mut self) -> Self {
         Cursor {
@@ -83,7 +84,7 @@ impl<'a, T: EncodingType> Cursor<'a, T> {
         }
     }
 
-    /// Ends a function that worked on a second cursor, `here`.
+    /// Does the last step of a function that worked on a second cursor. `here` is the second cursor.
     ///
     /// If `read` is `Ok`, `self` continues where `here` is. If `read` is a `Reason`, `self` keeps its remaining input,
     /// and `settle` returns the error of the `Reason`. The position of this error is the number of code units from `self`
@@ -162,8 +163,9 @@ impl<'a, T: EncodingType> Cursor<'a, T> {
 
     /// Consumes two digits, and returns their number.
     ///
-    /// One test finds the end of the input, and one comparison tests both digits. Returns `first` if the first digit is
-    /// missing, and `second` if the second one is missing. The cursor is then at the missing digit.
+    /// One test of the length finds whether two code units remain. One comparison finds whether both are digits. Returns
+    /// `first` if the first digit is missing, and `second` if the second one is missing. The cursor is then at the missing
+    /// digit.
     #[inline(always)]
     pub fn two_digits(&mut self, first: Reason, second: Reason) -> Result<u8, Reason> {
         if self.rest.len() < 2 {

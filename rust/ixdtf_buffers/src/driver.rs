@@ -13,7 +13,8 @@ use crate::source::Source;
 pub trait LineTask<const LIMIT: usize> {
     /// Handles one line, and writes its result to the output. `line` is `None` if the line has more than `LIMIT` bytes.
     ///
-    /// Returns `RunError::Write` if a write fails, to the output or to something else that the task writes to.
+    /// Returns `RunError::Write` if a write fails. This can be a write to the output, or a write to another place to which the task
+    /// writes.
     fn take_line<K: Sink>(
         &mut self,
         output: &mut Output<'_, K>,
@@ -39,8 +40,8 @@ pub struct Driven {
 /// Before each read, the function writes what is in the buffer to the sink. At the end of the source, it does this again, and then
 /// it flushes the sink. If a read fails, the sink is not flushed, and bytes after the last newline are not passed to the task.
 ///
-/// A read asks for at most `LIMIT` bytes. Before each read, the function tests whether `LIMIT` bytes more than were read so far
-/// would be more than `u64::MAX`. If so, it does not read, and ends as if a read had failed: [`Driven::end`] is
+/// A read asks for at most `LIMIT` bytes. Before each read, the function tests whether the sum of `LIMIT` and the number of bytes that
+/// were read so far is greater than `u64::MAX`. If so, it does not read, and ends as if a read had failed: [`Driven::end`] is
 /// `Err(RunError::Read)`.
 pub fn drive<S: Source, K: Sink, T: LineTask<LIMIT>, const LIMIT: usize>(
     source: &mut S,

@@ -14,14 +14,15 @@ const LEAST_WRITTEN: usize = 2048;
 /// A sink, and a buffer for the bytes that are not written to it yet.
 ///
 /// The buffer has a capacity of 4,096 bytes. The method [`put`](Output::put) appends a slice of bytes to it. If the slice has at
-/// most 4,096 bytes, but more than are free in the buffer, `put` takes these steps:
+/// most 4,096 bytes, but does not fit into the free part of the buffer, `put` takes these steps:
 ///
 /// 1. The first bytes of the slice fill the buffer.
 /// 2. The first bytes in the buffer are written to the sink. At least 2,048 bytes are written, and more if the rest of the slice
 ///    needs more space. The other bytes stay in the buffer.
 /// 3. The rest of the slice is appended to the buffer.
 ///
-/// A slice of more than 4,096 bytes does not use the buffer. The bytes in the buffer are written to the sink, and then the slice.
+/// A slice of more than 4,096 bytes does not use the buffer. First, the bytes in the buffer are written to the sink. Then the slice
+/// is written to the sink.
 ///
 /// After the last slice, call `hand_on` or `finish`. Without this call, the bytes in the buffer are not written to the sink.
 pub struct Output<'k, K> {

@@ -12,8 +12,8 @@ use ixdtf_print::{
     time_length_utf16, year_month_length, year_month_length_utf16, zone_length, zone_length_utf16,
 };
 
-/// An encoding of canonical texts: the code units that the printers write. Names and calendars in the records have code units
-/// of the same size.
+/// An encoding, with the printers that write texts in this encoding. It is `Utf8` or `Utf16`. The names of zones and the
+/// calendars in the records have code units of this encoding.
 ///
 /// Each function that prints returns the number of code units. Each function for a length returns `None` if the record cannot
 /// be printed, or if the length is greater than `usize::MAX`.

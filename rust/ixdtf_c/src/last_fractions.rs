@@ -53,10 +53,11 @@ fn last_nanoseconds(given: &Duration<'_>) -> Option<u64> {
 
 /// Writes the fraction of a duration in seconds and nanoseconds, such as 1800 and 0 for `PT1.5H`, and returns 0.
 ///
-/// If `time_form` is not 1 to 3, there is no last duration unit of the time: then the function writes 0 and 0, and returns 0.
-/// Otherwise returns 104, and writes nothing, if the fraction is not a whole number of nanoseconds, or if it has more than 18
-/// digits, because only the first 18 are known. Also returns 104 if `fraction` has more digits than `fraction_digits` says. But
-/// if `fraction_digits` is 0, there is no fraction, and the value of `fraction` does not matter.
+/// If `time_form` is not 1 to 3, there is no last duration unit of the time: then the function writes 0 and 0, and returns
+/// 0. Otherwise, the function returns 104 and writes nothing in three cases: the fraction is not a whole number of
+/// nanoseconds, it has more than 18 digits, or `fraction` has more digits than `fraction_digits` says. In the second case,
+/// the digits after the 18th are not known. But if `fraction_digits` is 0, there is no fraction, and the value of `fraction`
+/// does not matter.
 #[unsafe(no_mangle)]
 pub extern "C" fn ixdtf_duration_fraction(
     given: &Duration<'_>,

@@ -10,6 +10,10 @@
 //! These pages have the structs that are passed between C and Rust, but not all of the functions. In the repository, the header
 //! `c/ixdtf.h` documents each function that a program can call, and `docs/C.md` describes the library.
 //!
+//! A *profile* is a set of rules that says which texts the readers accept. There are two profiles. One of them, the *strict
+//! profile*, has stricter rules for a month and a day, and for a duration. A reader follows the strict profile if its name ends
+//! in `_strict`.
+//!
 //! In C, a `Slice` is a pointer and a length.
 
 #![cfg_attr(not(test), no_std)]

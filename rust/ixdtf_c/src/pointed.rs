@@ -1,8 +1,9 @@
 // Made by tools/to_rust.py of crates/ixdtf_c/src/pointed.rt. Do not edit.
 
-//! Adds to a report the text that was refused, and marks under the part that is wrong.
+//! Adds two lines to a report: the refused text, and below it a line of `^` signs under the part that is wrong.
 //!
-//! `Display` of `PointedText` writes the same bytes. But its contract does not say when it succeeds, and these functions always do.
+//! `Display` of `PointedText` writes the same bytes. But the contract of `Display` does not say when `Display` succeeds. The
+//! functions of this file always succeed.
 
 use crate::adding::add;
 use ixdtf::WrongPart;
@@ -13,7 +14,7 @@ const BEFORE_PLACE: usize = 48;
 /// The greatest number of characters that are shown from the first mark on, and the greatest number of marks.
 const FROM_PLACE: usize = 24;
 
-/// Adds the text, and under it a mark for each byte of the part.
+/// Adds the text, and under it a mark for each byte of the part: at least one mark and at most 24.
 pub fn add_pointed(out: &mut [u8], at: usize, text: &str, part: WrongPart) -> usize {
     let column = column_of(text, part.begin);
     let newline = add_line(out, at, text, column);

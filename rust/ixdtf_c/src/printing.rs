@@ -13,8 +13,8 @@ use ixdtf::records::{
 
 /// Returns the fraction with `digits` digits, whose first 18 digits are the number `value`.
 ///
-/// Returns `Some(None)` if `digits` is 0. Otherwise returns `None` if `value` has more digits than `digits` says, or more than
-/// 18.
+/// Returns `Some(None)` if `digits` is 0. Otherwise returns `None` if `value` has more digits than `digits` says, or if
+/// `value` has more than 18 digits.
 pub fn fraction_of(digits: u8, value: u64) -> Option<Option<Fraction>> {
     if digits == 0 {
         return Some(None);

@@ -43,8 +43,8 @@ fn with_parts<'a, T: EncodingType>(
     }
 }
 
-/// Reads a text with the reader of the kind `C`, without a handler. Writes the record, or the location and the position of the
-/// error. Returns 0 or the number of the error.
+/// Reads a text without a handler. The type parameter `C` says which kind of reader reads the text. Writes the record, or the
+/// location and the position of the error. Returns 0 or the number of the error.
 #[inline(always)]
 pub fn read_into<'a, T: EncodingType, C: CoreReader, R: RecordOf<'a, T>>(
     text: &'a [T::CodeUnit],

@@ -1,6 +1,6 @@
 // Made by tools/to_rust.py of crates/ixdtf_c/src/refusals.rt. Do not edit.
 
-//! The error of a text in each reader, with its position and its reason.
+//! Functions that return the error with which a reader refuses a text. The error has a position and a reason.
 
 use crate::asked::Reader;
 use ixdtf::LocatedError;

@@ -69,10 +69,10 @@ fn add_hint(out: &mut [u8], hint: &Option<Message<'_>>) -> usize {
 
 /// Writes the report of an error to the first bytes of `out`, and its length to `count`. Returns 0.
 ///
-/// The report has at least three lines, and no newline at the end: the message of the error, the text, and marks under the part of the
-/// text that is wrong. If there is a hint, the last line is `hint: ` and the hint. Only the fields `reason` and `place` of the explanation
-/// are used. `text` must be the complete text that was refused. If the text has 16-bit code units, `text` must be this text, converted to
-/// UTF-8.
+/// The first three lines of the report are the message of the error, the text, and marks under the part of the text that is wrong. The
+/// report does not end with a newline. If there is a hint, the last line is `hint: ` and the hint. Only the fields `reason` and `place`
+/// of the explanation are used. `text` must be the complete text that was refused. If the text has 16-bit code units, `text` must be this
+/// text, converted to UTF-8.
 ///
 /// Returns 102 if `out` is too short. Then `out` is unchanged, and `count` is the length of the report. Returns 101 if the
 /// explanation has no reason. Then `out` and `count` are unchanged.
@@ -108,7 +108,8 @@ pub unsafe extern "C" fn ixdtf_describe(
 
 /// Writes the hint about an error to the first bytes of `out`, and its length to `count`. Returns 0. If there is no hint, the length is 0.
 ///
-/// The arguments, and what the function returns otherwise, are those of `ixdtf_describe`.
+/// The arguments are those of `ixdtf_describe`. The function also returns 101 and 102 in the same cases as `ixdtf_describe`: 102 if `out`
+/// is too short (here `count` is the length of the hint), and 101 if the explanation has no reason.
 #[unsafe(no_mangle)]
 pub unsafe extern "C" fn ixdtf_hint(
     explanation: &Explanation,

@@ -1,8 +1,9 @@
 // Made by tools/to_rust.py of crates/ixdtf_c/src/shown.rt. Do not edit.
 
-//! Adds to a report what a message shows of a refused text.
+//! Adds a message to a report. A message can show a part of the refused text, a character or a byte.
 //!
-//! `Display` of [`Shown`] writes the same bytes. But its contract does not say when it succeeds, and these functions always do.
+//! `Display` of [`Message`] and of [`Shown`] writes the same bytes. But the contract of `Display` does not say when `Display`
+//! succeeds. The functions of this file always succeed.
 
 use crate::adding::add;
 use ixdtf::{Message, Shown};

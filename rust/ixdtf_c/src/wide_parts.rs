@@ -4,7 +4,7 @@
 
 use ixdtf::{Reason, WrongPart};
 
-/// Returns the part of the text that is wrong, if the position of the error is `place`.
+/// Returns the part of the text that is wrong. The position of the error is `place`, and its reason is `reason`.
 pub fn part_of(reason: Reason, place: usize, text: &[u16]) -> WrongPart {
     let at = place.min(text.len());
     let before = at.saturating_sub(1);

@@ -462,9 +462,9 @@ impl Options {
         Word::Option
     }
 
-    /// Decides whether reports have colours, for `--color auto` and for no `--color`. Reports as objects of JSON never have colours.
-    /// `shows_colors` says whether the reports go to a terminal that shows colours. Call this function after all words. Without a
-    /// call, `auto` means no colours.
+    /// Decides whether reports have colours, if `--color` is missing or has the value `auto`. Reports as objects of JSON never have
+    /// colours. `shows_colors` says whether the reports go to a terminal that shows colours. Call this function after all words.
+    /// Without a call, `auto` means no colours.
     pub fn settle_color(&mut self, shows_colors: bool) {
         if self.color == Color::Auto && shows_colors {
             self.color = Color::Always;
@@ -477,8 +477,8 @@ impl Options {
         self.is_canonical
     }
 
-    /// Returns whether the counts are written to standard error. If the reports go to standard error as objects of JSON, the counts
-    /// are not written there. Then standard error contains only objects, if nothing fails.
+    /// Returns whether the numbers of lines, of refused lines and of bytes are written to standard error. If the reports go to standard
+    /// error as objects of JSON, these numbers are not written there. Then standard error contains only objects, if nothing fails.
     pub fn has_counts(&self) -> bool {
         !(self.has_two_outputs() && self.format == Format::Json)
     }

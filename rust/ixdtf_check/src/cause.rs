@@ -2,8 +2,8 @@
 
 //! Why a line is refused.
 //!
-//! If a line is refused, its verdict contains only the cause. What a report says about the line is made from the cause when the report
-//! is written. For this reason, few bytes are copied from one function to another. If a report is not written, nothing is made for it.
+//! If a line is refused, its verdict contains only the cause. The contents of a report are made from the cause when the report is
+//! written. For this reason, few bytes are copied from one function to another. If a report is not written, nothing is made for it.
 
 use crate::csv::Quoting;
 use crate::part::Part;
@@ -39,7 +39,7 @@ pub struct WholeText<'a> {
 /// A text that a reader refuses.
 #[derive(Clone, Copy)]
 pub struct Unread<'a> {
-    /// Whether texts of this kind can have an offset after their time.
+    /// Whether the kind of text that the reader parses can have an offset after the time.
     pub has_offset: bool,
     /// The error that the reader returned.
     pub error: LocatedError,

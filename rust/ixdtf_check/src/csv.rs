@@ -1,6 +1,6 @@
 // Made by tools/to_rust.py of crates/ixdtf_checks/src/csv.rt. Do not edit.
 
-//! The fields of a record of RFC 4180, of which some may be in quotes.
+//! The fields of a record of RFC 4180. Some of these fields may be in quotes.
 
 use crate::part::{Lost, Part};
 use crate::verdict::LINE_LIMIT;
@@ -41,7 +41,7 @@ pub enum Ending {
     Bad(Broken),
 }
 
-/// How far `walk` went.
+/// How far the function `walk` went in a line. The function tries to pass over a given number of fields at the beginning of the line.
 #[derive(Clone, Copy)]
 pub enum Walked {
     /// To the field that begins at this index.

@@ -1,6 +1,6 @@
 // Made by tools/to_rust.py of crates/ixdtf_checks/src/explaining.rt. Do not edit.
 
-//! Makes what a report says about a refused line.
+//! Makes the contents of the report of a refused line, from the cause for which the line is refused.
 
 use crate::cause::{Cause, Unread, WholeText};
 use crate::csv::Quoting;
@@ -112,7 +112,7 @@ fn hint_about(unread: Unread<'_>) -> Option<Message<'_>> {
 /// Returns `true` if both conditions are met:
 ///
 /// - Texts of the kind can have an offset after their time (`unread.has_offset`).
-/// - From the beginning of the part that is wrong on, the text has a space, and then the beginning of an offset.
+/// - The text has a space where the part that is wrong begins. Directly after this space, the text has the beginning of an offset.
 #[inline(always)]
 pub fn has_space(unread: &Unread<'_>, wrong: WrongPart) -> bool {
     unread.has_offset && is_spaced(&unread.part.text[wrong.begin..])
@@ -153,8 +153,8 @@ fn message_of_quoting(quoting: Quoting) -> &'static str {
     }
 }
 
-/// Returns the name of the reason, which an object of JSON contains. If a reader refuses the text, the name is that of `Reason::name`.
-/// This crate defines the other names, such as `line_too_long`.
+/// Returns the name of the reason. A report as an object of JSON contains this name. For `Why::Unread`, it is the name that
+/// `Reason::name` returns. This crate defines the names of the other variants of `Why`, such as `line_too_long`.
 pub fn name_of(why: Why) -> &'static str {
     match why {
         Why::LineTooLong => "line_too_long",

@@ -18,7 +18,7 @@ pub struct Part<'a> {
     /// The text of the part. If the part is a field in quotes, each doubled quote of the field is one quote in this
     /// text.
     pub text: &'a [u8],
-    /// Whether the part is a field in quotes. Then the line has each quote of `text` twice.
+    /// Whether the part is a field in quotes. If this is `true`, the line contains each quote of `text` twice.
     pub is_quoted: bool,
 }
 
@@ -125,7 +125,8 @@ fn plain_field(separator: u8, before: usize, line: &[u8]) -> Result<Part<'_>, Lo
     }
 }
 
-/// Returns the field that has `before` fields before it, together with `more` fields after it. Returns an error if there are too few fields.
+/// Returns the field that has `before` fields before it, together with `more` fields after it. Returns an error if there are too few
+/// fields.
 #[inline(never)]
 fn plain_fields(separator: u8, before: usize, more: usize, line: &[u8]) -> Result<Part<'_>, Lost> {
     match field_start(separator, before, line) {

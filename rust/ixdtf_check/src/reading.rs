@@ -77,12 +77,12 @@ fn read_zone_name(text: &[u8]) -> Result<(), LocatedError> {
     }
 }
 
-/// Creates a parser of the text under the profile.
+/// Creates a parser for the text. The profile is the set of rules that the parser applies.
 pub fn parser(profile: Profile, text: &[u8]) -> IxdtfParser<'_, Utf8> {
     IxdtfParser::from_utf8(text).with_profile(profile)
 }
 
-/// Creates a parser of the text as a duration, under the profile.
+/// Creates a parser that reads the text as a duration. The profile is the set of rules that the parser applies.
 pub fn duration_parser(profile: Profile, text: &[u8]) -> IsoDurationParser<'_, Utf8> {
     IsoDurationParser::<Utf8>::from_utf8(text).with_profile(profile)
 }

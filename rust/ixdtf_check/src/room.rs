@@ -30,8 +30,8 @@ impl ReportRoom {
 
 /// The digits of a number, except its last digit.
 ///
-/// Ten numbers in a row have the same first digits. So the first digits of the number of a line are kept for the next lines, and only
-/// the first of ten lines needs divisions.
+/// Ten numbers that differ only in the last digit, such as 120 to 129, have the same first digits. So the first digits of the number of
+/// a line are kept for the next lines, and only the first of ten lines needs divisions.
 #[derive(Clone, Copy)]
 pub struct FirstDigits {
     /// The least number that has these first digits. It is a multiple of ten.

@@ -50,7 +50,7 @@ pub fn put_message<K: Sink>(
 }
 
 /// Adds the character in backticks, or its name, or its number. Returns the index after the added bytes. Most characters are added
-/// in backticks, so they are tested first.
+/// in backticks, so the function tests for these characters first.
 #[inline(always)]
 pub fn add_character<const SIZE: usize>(room: &mut [u8; SIZE], at: usize, character: char) -> usize {
     match character {
@@ -109,7 +109,7 @@ fn add_first_digits<const SIZE: usize>(room: &mut [u8; SIZE], at: usize, number:
     }
 }
 
-/// Writes the number of a byte in two hexadecimal digits, and returns the index after them.
+/// Writes the value of a byte in two hexadecimal digits, and returns the index after them.
 pub fn add_two_digits<const SIZE: usize>(room: &mut [u8; SIZE], at: usize, byte: u8) -> usize {
     let last = add_byte(room, at, digit(byte / 16));
     add_byte(room, last, digit(byte % 16))

@@ -25,9 +25,9 @@ pub enum Word {
     /// `strict-month-day`: the same as `month-day`, but under the strict profile, `Profile::Strict` of the crate `ixdtf`. Under this
     /// profile, the day must be at least 1.
     StrictMonthDay,
-    /// `strict-time`: the same as `time`, but under the strict profile. `time` refuses some texts, such as `1200`, because they could
-    /// also begin with a month and a day: `1200` could mean month 12, day 00. Under the strict profile, there is no day 00. So
-    /// `strict-time` accepts `1200`, as the time 12:00.
+    /// `strict-time`: the same as `time`, but under the strict profile. `time` refuses a text that is a time, but also begins with a
+    /// month and a day. For example, `1200` is the time 12:00, but it is also the month 12 with the day 00. Under the strict profile,
+    /// there is no day 00. So `strict-time` accepts `1200`, as the time 12:00.
     StrictTime,
     /// `strict-duration`: the same as `duration`, but under the strict profile. Under this profile, a unit must not be repeated.
     StrictDuration,

@@ -124,22 +124,24 @@ impl Letters for BracketLetters {
     }
 }
 
-/// The error of a first bracket, and a cursor at its position.
+/// The `Reason` for the error of a first bracket, and a cursor at the position of this error.
 struct Refused<'a, T: EncodingType> {
     stop: Reason,
     there: Cursor<'a, T>,
 }
 
-/// Returns the error of a first bracket that is not a name, after the code units of a name have been consumed.
+/// Returns the `Reason` for the error of a first bracket, and a cursor at the position of this error. The caller has
+/// consumed the code units of a name.
 ///
 /// The function is called in two cases. In the first case, a code unit other than `]` follows the consumed ones. In the
 /// second case, a `]` follows them, but they end with a `/`, and a name cannot end there.
 ///
-/// - If an `=` comes before any `]`, the bracket is an annotation. The error is `AnnotationKeyChar`, at the first code
-///   unit that a key cannot contain.
-/// - If a `]` comes first, the bracket is a zone. The error is that of the name (`NameState::stop`), at the first code
-///   unit that cannot follow in the name.
-/// - Otherwise the error is `AbruptBracket` at the end of the input, or `NonAsciiCodePoint` at a bad code unit.
+/// - If an `=` comes before any `]`, the bracket is an annotation. The `Reason` is `InKey`. The position is that of the first
+///   code unit that a key cannot contain.
+/// - If a `]` comes first, the bracket is a zone. The `Reason` is the one that `NameState::stop` returns for the name. The
+///   position is that of the first code unit that cannot follow in the name.
+/// - Otherwise, the input ends, or has a bad code unit, before any `=` or `]`. The `Reason` is `FirstBracketScan`. The
+///   position is the end of the input, or that of the bad code unit.
 ///
 /// The cursor is passed by value, so that the compiler can keep the cursor of the caller in registers.
 fn refuse_bracket<'a, T: EncodingType>(

@@ -296,7 +296,7 @@ pub fn check_month(month: u8, stop: Reason) -> Result<u8, Reason> {
     Ok(month)
 }
 
-/// Returns the date if the month of the year has the day, and otherwise `DayRange`. The month is not checked.
+/// Returns the date if the day exists in this month of this year, and otherwise `DayRange`. The month is not checked.
 #[inline(always)]
 pub fn check_date(year: i32, month: u8, day: u8) -> Result<DateRecord, Reason> {
     if !has_day(year, month, day) {

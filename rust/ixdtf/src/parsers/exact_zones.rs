@@ -86,7 +86,8 @@ fn is_exact_zone<'a, T: EncodingType>(
     is_exact
 }
 
-/// Returns the error of a zone that does not have the form of RFC 9557, section 4.1.
+/// Returns the `Reason` for a zone that does not have the form of RFC 9557, section 4.1: `FirstNameForm` for a name, and
+/// `FirstOffsetForm` for an offset.
 #[inline(always)]
 fn zone_stop<'a, T: EncodingType>(zone: &TimeZoneAnnotation<'a, T>) -> Reason {
     match &zone.tz {
@@ -97,8 +98,8 @@ fn zone_stop<'a, T: EncodingType>(zone: &TimeZoneAnnotation<'a, T>) -> Reason {
 
 /// Reads a first bracket after its `[`. If `is_exact`, a zone must have the form of RFC 9557, section 4.1.
 ///
-/// If the zone is a name without this form, returns `IanaChar`. If it is an offset without this form, returns
-/// `InvalidMinutePrecisionOffset`. Both errors have the position after the `]`.
+/// If the zone is a name without this form, returns `FirstNameForm`. If it is an offset without this form, returns
+/// `FirstOffsetForm`. In both cases, the cursor is then after the `]`.
 #[inline(always)]
 pub fn parse_bracket_by<'a, T: EncodingType>(
     cursor: &mut Cursor<'a, T>,

@@ -14,7 +14,10 @@ use crate::cursor::Cursor;
 
 // ==== Year-months ====
 
-/// Reads a year-month, as a date with day 1: in its seven or six fixed columns if they fit, and otherwise part by part.
+/// Reads a year-month, and returns it as a date with day 1.
+///
+/// The function first tries to read seven or six fixed columns. If a column does not fit, the function reads the
+/// year-month part by part.
 #[inline(always)]
 pub fn parse_year_month_date<'a, T: EncodingType>(
     cursor: &mut Cursor<'a, T>,
@@ -25,7 +28,7 @@ pub fn parse_year_month_date<'a, T: EncodingType>(
     }
 }
 
-/// Returns the first day of a year-month if its month is 1 to 12, and otherwise `InvalidMonthRange`.
+/// Returns the first day of a year-month if its month is 1 to 12, and otherwise `MonthRange`.
 #[inline(always)]
 fn check_year_month(first: DateRecord) -> Result<DateRecord, Reason> {
     check_month(first.month, Reason::MonthRange)?;
@@ -82,8 +85,10 @@ pub fn parse_year_month_parts<'a, T: EncodingType>(
 
 // ==== Month-days ====
 
-/// Reads a month-day, as a date with year 0: in its five or four fixed columns if they fit, and otherwise part by part.
-/// Two hyphens can be before it.
+/// Reads a month-day, and returns it as a date with year 0. Two hyphens can be before the month-day.
+///
+/// The function first tries to read five or four fixed columns. If a column does not fit, the function reads the
+/// month-day part by part.
 #[inline(always)]
 pub fn parse_month_day_date<'a, T: EncodingType>(
     cursor: &mut Cursor<'a, T>,
@@ -179,9 +184,8 @@ fn parse_day_of_month<'a, T: EncodingType>(
 /// If a hyphen is next, consumes it and a second hyphen, and returns `true`. If a digit is next, consumes nothing, and
 /// returns `false`.
 ///
-/// Returns `AbruptMonthDay` at the end of the input, and `NonAsciiCodePoint` at a bad code unit. If the first code unit is
-/// neither a hyphen nor a digit, returns `DateMonth`. If a hyphen is next, and no hyphen follows it, returns
-/// `MonthDayHyphen`.
+/// Returns `MonthDayStart` if neither a hyphen nor a digit is next. Returns `MonthDayHyphen` if a hyphen is next, and no
+/// second hyphen follows it.
 #[inline(always)]
 fn take_marks<'a, T: EncodingType>(cursor: &mut Cursor<'a, T>) -> Result<bool, Reason> {
     if !take_hyphen(cursor, Reason::MonthDayStart)? {
@@ -196,7 +200,7 @@ fn take_marks<'a, T: EncodingType>(cursor: &mut Cursor<'a, T>) -> Result<bool, R
     }
 }
 
-/// Returns the month-day if its month has the day in some year, and otherwise `InvalidMonthDay`. Day 0 is accepted too,
+/// Returns the month-day if its month has the day in some year, and otherwise `MonthDayRange`. Day 0 is accepted too,
 /// but not under the strict profile.
 #[inline(always)]
 pub fn check_month_day(profile: Profile, month: u8, day: u8) -> Result<DateRecord, Reason> {

@@ -22,7 +22,7 @@ pub enum AfterCore {
 }
 
 impl AfterCore {
-    /// Returns whether it is a `[`.
+    /// Returns whether a `[` follows the core.
     #[inline(always)]
     pub fn opens_bracket(self) -> bool {
         match self {

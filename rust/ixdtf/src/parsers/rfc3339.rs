@@ -23,8 +23,7 @@ use crate::classes::{
 };
 use crate::cursor::Cursor;
 
-/// Consumes a colon. Returns `NonAsciiCodePoint` at a bad code unit, and `stop` at the end of the input and at any other
-/// code unit.
+/// Consumes a colon. Returns `stop` if no colon is next.
 #[inline(always)]
 fn take_colon<'a, T: EncodingType>(cursor: &mut Cursor<'a, T>, stop: Reason) -> Result<u8, Reason> {
     match cursor.look(stop)? {
@@ -36,8 +35,7 @@ fn take_colon<'a, T: EncodingType>(cursor: &mut Cursor<'a, T>, stop: Reason) -> 
     }
 }
 
-/// Consumes a hyphen of a date. Returns `at_end` at the end of the input, `NonAsciiCodePoint` at a bad code unit, and
-/// `DateSeparator` at any other code unit.
+/// Consumes a hyphen of a date. Returns `stop` if no hyphen is next.
 #[inline(always)]
 fn take_date_hyphen<'a, T: EncodingType>(
     cursor: &mut Cursor<'a, T>,
@@ -52,8 +50,7 @@ fn take_date_hyphen<'a, T: EncodingType>(
     }
 }
 
-/// Consumes `T` or `t`. Returns `NonAsciiCodePoint` at a bad code unit, and `TimeSeparator` at the end of the input and at
-/// any other code unit.
+/// Consumes `T` or `t`. Returns `AfterDayField` if neither of them is next.
 #[inline(always)]
 fn take_time_letter<'a, T: EncodingType>(cursor: &mut Cursor<'a, T>) -> Result<u8, Reason> {
     match cursor.look(Reason::AfterDayField)? {
@@ -65,10 +62,7 @@ fn take_time_letter<'a, T: EncodingType>(cursor: &mut Cursor<'a, T>) -> Result<u
     }
 }
 
-/// Reads the four digits of a year, and returns their number.
-///
-/// Returns `AbruptDigit` at the end of the input, `NonAsciiCodePoint` at a bad code unit, and `DateYear` at any other code
-/// unit that is not a digit.
+/// Reads the four digits of a year, and returns their number. Returns `FourDigits` if a digit is missing.
 #[inline(always)]
 fn parse_year<'a, T: EncodingType>(cursor: &mut Cursor<'a, T>) -> Result<u16, Reason> {
     let thousands = cursor.next_digit(Reason::FourDigits)?;
@@ -83,14 +77,15 @@ fn parse_year<'a, T: EncodingType>(cursor: &mut Cursor<'a, T>) -> Result<u16, Re
     )
 }
 
-/// Reads a month, 01 to 12. Any other number is `InvalidMonthRange`.
+/// Reads a month. Returns `MonthFieldDigits` if a digit is missing, and `MonthFieldRange` if the month is not 01 to 12.
 #[inline(always)]
 fn parse_month<'a, T: EncodingType>(cursor: &mut Cursor<'a, T>) -> Result<u8, Reason> {
     let month = cursor.two_digits(Reason::MonthFieldDigits, Reason::MonthFieldDigits)?;
     check_month(month, Reason::MonthFieldRange)
 }
 
-/// Reads a day. If the month of the year does not have the day, returns `InvalidDayRange`.
+/// Reads a day. Returns `DayFieldDigits` if a digit is missing, and `DayFieldRange` if the month of the year does not have
+/// the day.
 #[inline(always)]
 fn parse_day<'a, T: EncodingType>(
     cursor: &mut Cursor<'a, T>,
@@ -272,8 +267,8 @@ fn pass_date_and_time<'a, T: EncodingType>(cursor: &mut Cursor<'a, T>) -> Result
     pass_day_and_time(cursor, year, month)
 }
 
-/// Returns the first error of a text that does not begin with a date, then `T` or `t`, and then a time. The text is
-/// read number by number. The function is not inlined, because it is called only for a text with an error.
+/// Returns the `Reason` for the first error of a text that does not begin with a date, then `T` or `t`, and then a time.
+/// The text is read number by number. The function is not inlined, because it is called only for a text with an error.
 #[inline(never)]
 fn first_stop<'a, T: EncodingType>(cursor: &mut Cursor<'a, T>) -> Reason {
     match pass_date_and_time(cursor) {

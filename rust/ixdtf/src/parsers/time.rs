@@ -40,8 +40,8 @@ impl Clock {
         }
     }
 
-    /// Returns the `Reason` for an error directly after a time, or an offset, with these parts. `self` says which of the
-    /// two it is.
+    /// Returns the `Reason` for an error directly after a time or an offset. `shape` says which parts the time or the
+    /// offset has. `self` says which of the two it is.
     #[inline(always)]
     pub fn stop_after(self, shape: TimeShape) -> Reason {
         match shape {
@@ -63,7 +63,7 @@ impl Clock {
         }
     }
 
-    /// Returns the `Reason` that `line` has for this clock.
+    /// Returns the `Reason` of the table line `line` for this clock.
     #[inline(always)]
     pub fn stop(self, line: ClockLine) -> Reason {
         match self {

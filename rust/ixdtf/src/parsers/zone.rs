@@ -33,8 +33,8 @@ pub struct NameState {
 }
 
 impl NameState {
-    /// Returns the error of a code unit that cannot follow here: `IanaCharPostSeparator` if the name cannot end here, and
-    /// otherwise `IanaChar`.
+    /// Returns the `Reason` for a code unit that cannot follow here: `AfterZoneSlash` if the name cannot end here, and
+    /// otherwise `InZoneName`.
     #[inline(always)]
     pub fn stop(self) -> Reason {
         if self.may_end {
@@ -66,7 +66,7 @@ fn starts_part(next: Option<u8>) -> bool {
 
 /// Consumes the code units of a name, part by part. A `/` separates two parts.
 ///
-/// Returns `NonAsciiCodePoint` at a bad code unit.
+/// At a bad code unit, returns `after_slash` if a `/` is directly before it, and otherwise `in_name`.
 #[inline(always)]
 pub fn pass_name<'a, T: EncodingType>(
     cursor: &mut Cursor<'a, T>,
@@ -179,8 +179,8 @@ pub fn parse_identifier_text<'a, T: EncodingType>(
 
 // ==== Brackets ====
 
-/// Expects `]`. Returns `AnnotationClose` at the end of the input, `NonAsciiCodePoint` at a bad code unit, and `other`
-/// at any other code unit.
+/// Consumes the `]` after an offset without seconds. `shape` says which parts the offset has. If no `]` is next, returns
+/// the `Reason` that `Clock::stop_after` returns for this shape.
 #[inline(always)]
 fn close_bracket<'a, T: EncodingType>(
     cursor: &mut Cursor<'a, T>,
