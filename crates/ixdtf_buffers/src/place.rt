@@ -82,8 +82,8 @@ pub struct Passed {
     pub left: usize,
 }
 
-/// Skips bytes in steps of 16, and counts the skipped bytes that are equal to `wanted`. Stops before the step in which their number
-/// would reach `count`.
+/// Skips bytes in steps of 16, and counts the skipped bytes that are equal to `wanted`. The function stops before a step if at least
+/// `count` skipped bytes would be equal to `wanted` after this step.
 ///
 /// For example, if `wanted` is `b','` and `count` is 3, the function stops before the step that contains the third comma. The
 /// function also stops if fewer than 16 bytes are left.

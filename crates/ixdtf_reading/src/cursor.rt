@@ -246,7 +246,7 @@ impl<'a, T: EncodingType> Cursor<'a, T> {
         Err(stop)
     }
 
-    /// Consumes two digits, and returns their number.
+    /// Consumes two digits, and returns the number that they form, 0 to 99.
     ///
     /// One test of the length finds whether two code units remain. One comparison finds whether both are digits. Returns
     /// `first` if the first digit is missing, and `second` if the second one is missing. The cursor is then at the missing
@@ -324,7 +324,8 @@ impl<'a, T: EncodingType> Cursor<'a, T> {
         }
     }
 
-    /// Returns the number of the two digits at `index` of the remaining input and at the next index.
+    /// Returns the number, 0 to 99, that two digits form. The tens digit is at `index` of the remaining input, and the ones digit is
+    /// at the next index.
     ///
     /// Returns `None` if one of them is not a digit. It reads the second one also if the first one is not a digit.
     #[inline(always)]

@@ -5,6 +5,13 @@
 //! - `annotations` reads keys, values and annotations.
 //! - `code` has a code of one byte for each error, and `codes` has the tables of the codes. `stop` makes the errors.
 //!
+//! Some words of the comments of this crate come from `ixdtf_grammar`:
+//!
+//! - The *fault table* says which error a reader returns for a text. It consists of *lines*, and each line has one or more *rows*. Each
+//!   row has one error.
+//! - A `Reason` says which line fits a text that a reader refuses.
+//! - A *bad code unit* is a 16-bit code unit outside 1 to 126.
+//!
 //! This is a layer of the library `ixdtf`, above `ixdtf_grammar`. `specs/reading` has the *reading functions*. A reading
 //! function is not code, but a definition: it says which result a function of the code must have for each list of code
 //! units. This crate proves three things about the reading functions:
@@ -16,9 +23,6 @@
 //! - If all code units are 1 to 126, the result is the same for 8-bit and for 16-bit text (`proofs/widths`).
 //!
 //! So the layers above only have to prove that their functions do what the reading functions do.
-//!
-//! In the comments of this crate, a `Reason` says why a reader refuses a text, and a *bad code unit* is a 16-bit code unit outside 1 to
-//! 126.
 #![tactic(auto)]
 
 pub mod annotations;

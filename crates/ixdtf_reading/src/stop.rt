@@ -35,7 +35,7 @@ pub struct StopAt {
 ///
 /// A function that can return either of the two is generic in the type of its error, with this trait as the bound.
 pub trait FromStop {
-    /// The `Fault` of an error. Contracts describe errors by values of this type.
+    /// Returns the `Fault` that describes an error. The type `Fault` exists only in the proof, and contracts use it to describe errors.
     ghost fault: { Self → Fault };
 
     /// A statement about a reason, a position and an error. For a `LocatedError` it says that the error has this reason and this
