@@ -7,6 +7,7 @@
 //!
 //! Some words of the comments of this crate come from `ixdtf_grammar`:
 //!
+//! - A *reader* is a parsing method of the library, such as `IxdtfParser::parse`.
 //! - The *fault table* says which error a reader returns for a text. It consists of *lines*, and each line has one or more *rows*. Each
 //!   row has one error.
 //! - A `Reason` says which line fits a text that a reader refuses.

@@ -4,7 +4,7 @@
 //!
 //! A cursor has no index. It keeps the remaining code units as one slice, so it cannot point past the end. When a
 //! function that reads a part of a text returns an error, its cursor is at the position of the error. Users of the library
-//! call the readers of a parser. Each of these readers works on a second cursor. If such a reader fails, the cursor of the
+//! call the readers, such as `IxdtfParser::parse`. Each reader works on a second cursor. If a reader fails, the cursor of the
 //! parser is unchanged.
 
 use crate::classes::two_digit_number;
