@@ -12,6 +12,7 @@
 //!   row has one error.
 //! - A `Reason` says which line fits a text that a reader refuses.
 //! - A *bad code unit* is a 16-bit code unit outside 1 to 126.
+//! - A *bracket* is a `[`, the `]` that closes it, and the code units between them. It has a time zone or an annotation.
 //!
 //! This is a layer of the library `ixdtf`, above `ixdtf_grammar`. `specs/reading` has the *reading functions*. A reading
 //! function is not code, but a definition: it says which result a function of the code must have for each list of code

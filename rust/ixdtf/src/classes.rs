@@ -188,7 +188,7 @@ pub fn is_annotation_value_component(byte: u8) -> bool {
     CLASSES[byte as usize] & VALUE_CHAR != 0
 }
 
-/// Returns the number of two digits, 0 to 99. Returns at least 100 if one of the bytes is not a digit.
+/// Returns the number that two digits form, 0 to 99. Returns at least 100 if one of the bytes is not a digit.
 #[inline(always)]
 pub fn two_digit_number(tens: u8, ones: u8) -> u8 {
     tens_of(tens) + ones_of(ones)

@@ -3,9 +3,10 @@
 //! A cursor: the remaining code units of a source.
 //!
 //! A cursor has no index. It keeps the remaining code units as one slice, so it cannot point past the end. When a
-//! function that reads a part of a text returns an error, its cursor is at the position of the error. Users of the library
-//! call the readers, such as `IxdtfParser::parse`. Each reader works on a second cursor. If a reader fails, the cursor of the
-//! parser is unchanged.
+//! function that reads a part of a text returns an error, its cursor is at the position of the error.
+//!
+//! A parser has a cursor too. But a reader of the parser works on a second cursor, which begins at the same position. If
+//! the reader fails, the cursor of the parser is unchanged.
 
 use crate::classes::two_digit_number;
 use crate::codes::{Next, code_of};

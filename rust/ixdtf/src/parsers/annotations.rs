@@ -151,7 +151,7 @@ fn parse_critical_pair<'a, T: EncodingType>(
     stopped(Reason::CriticalKeyStart)
 }
 
-/// Reads the next annotation. The `]` of the previous bracket is already consumed. Returns `None` at the end of the input.
+/// Reads the next annotation, after a bracket that is completely consumed. Returns `None` at the end of the input.
 #[inline(always)]
 pub fn next_annotation<'a, T: EncodingType>(
     cursor: &mut Cursor<'a, T>,
