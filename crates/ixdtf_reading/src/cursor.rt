@@ -328,7 +328,8 @@ impl<'a, T: EncodingType> Cursor<'a, T> {
     /// Returns the number, 0 to 99, that two digits form. The tens digit is at `index` of the remaining input, and the ones digit is
     /// at the next index.
     ///
-    /// Returns `None` if one of them is not a digit. It reads the second one also if the first one is not a digit.
+    /// Returns `None` if there is no digit at one of these two indexes. The function reads the code unit at the second index even if
+    /// there is no digit at the first index.
     #[inline(always)]
     #[tactic(auto, unfolding(crate::specs::reading::FixedPlaces::number_place))]
     pub fn fixed_number(&mut self, index: usize) -> Option<u8>
