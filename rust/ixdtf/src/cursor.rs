@@ -67,9 +67,9 @@ impl<'a, T: EncodingType> Cursor<'a, T> {
     /// Returns a second cursor at the same position. `self` keeps its remaining input.
     ///
     /// A function that must consume nothing on failure works on the second cursor. A function with a loop, or with a call
-    /// that is not inlined, also works on the second cursor: a local cursor can stay in registers. Some functions use
-    /// the second cursor only because it can stay in registers. Before such a function ends, it stores the second cursor
-    /// in `self`. It does so after an error too.
+    /// that is not inlined, also works on the second cursor. The second cursor is a local variable, so the compiler can keep
+    /// it in registers. Some functions use the second cursor only for this. Before such a function ends, it stores the second
+    /// cursor in `self`. It does so after an error too.
     #[inline(always)]
     pub fn fork(&mut self) -> Self {
         Cursor {
