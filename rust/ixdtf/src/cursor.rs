@@ -5,8 +5,8 @@
 //! A cursor has no index. It keeps the remaining code units as one slice, so it cannot point past the end. When a
 //! function that reads a part of a text returns an error, its cursor is at the position of the error.
 //!
-//! A parser has a cursor too. But a reader of the parser works on a second cursor, which begins at the same position. If
-//! the reader fails, the cursor of the parser is unchanged.
+//! A parser, such as `IxdtfParser`, keeps a cursor in a field. A reader of the parser works on a second cursor, which begins
+//! at the same position. If the reader fails, the cursor of the parser is unchanged.
 
 use crate::classes::two_digit_number;
 use crate::codes::{Next, code_of};
@@ -66,10 +66,12 @@ impl<'a, T: EncodingType> Cursor<'a, T> {
 
     /// Returns a second cursor at the same position. `self` keeps its remaining input.
     ///
-    /// A function that must consume nothing on failure works on the second cursor. A function with a loop, or with a call
-    /// that is not inlined, also works on the second cursor. The second cursor is a local variable, so the compiler can keep
-    /// it in registers. Some functions use the second cursor only for this. Before such a function ends, it stores the second
-    /// cursor in `self`. It does so after an error too.
+    /// There are two uses of the second cursor:
+    ///
+    /// - A function that must consume nothing on failure works on the second cursor. It stores the second cursor in `self` only
+    ///   if it succeeds.
+    /// - A function with a loop, or with a call that is not inlined, works on the second cursor because the compiler can keep a
+    ///   local variable in registers. Such a function always stores the second cursor in `self` at its end.
     #[inline(always)]
     pub fn fork(&mut self) -> Self {
         Cursor {

@@ -7,8 +7,8 @@ use crate::{LocatedError, ParseError, Reason};
 
 /// Returns `Err(stop)`.
 ///
-/// The attribute `cold` tells the compiler that errors are rare. Without this attribute, the compiled code prepares the value
-/// of the `Reason` before it tests a code unit. It then does this work for a text without an error too.
+/// The attribute `cold` tells the compiler that errors are rare. Without this attribute, the compiled code prepares the value of the
+/// `Reason` before it tests a code unit, even if the text has no error.
 #[cold]
 #[inline(always)]
 pub fn stopped<R>(stop: Reason) -> Result<R, Reason> {
