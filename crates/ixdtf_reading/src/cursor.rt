@@ -98,8 +98,9 @@ impl<'a, T: EncodingType> Cursor<'a, T> {
     ///
     /// - A function that must consume nothing on failure works on the second cursor. It stores the second cursor in `self` only
     ///   if it succeeds.
-    /// - A function with a loop, or with a call that is not inlined, works on the second cursor because the compiler can keep a
-    ///   local variable in registers. Such a function always stores the second cursor in `self` at its end.
+    /// - A function with a loop works on the second cursor, because the compiler can keep this local variable in registers. A
+    ///   function with a call that is not inlined passes the second cursor to the call, so that the compiler can keep the first
+    ///   cursor in registers. Both always store the second cursor in `self` at their end.
     #[inline(always)]
     pub fn fork(&mut self) -> Self
         // The count of accesses moves to the second cursor.

@@ -9,7 +9,7 @@ use crate::cursor::Cursor;
 use ixdtf_grammar::Reason;
 use ixdtf_grammar::encoding::EncodingType;
 
-/// A class of code units, such as those of a key.
+/// A class of code units, such as the class of the code units that a key can contain.
 pub trait Letters {
     /// The class. It exists only in the proof.
     ghost class: { Class };

@@ -56,8 +56,8 @@ impl FromStop for ParseError {
 
 /// Makes the error.
 ///
-/// The function is not inlined, so that the code of its callers stays small. But it is generic, so the compiler knows its
-/// body when it compiles a caller. If the caller does not use the error, the compiler can remove the call.
+/// The function is not inlined, so that the code of its callers stays small. The function is generic, so the compiler knows the
+/// body of the function when it compiles a caller. If the caller does not use the error, the compiler can remove the call.
 #[cold]
 #[inline(never)]
 pub fn error_of_stop<E: FromStop>(why: StopAt) -> E {

@@ -6,7 +6,7 @@ use crate::cursor::Cursor;
 use crate::Reason;
 use crate::encoding::EncodingType;
 
-/// A class of code units, such as those of a key.
+/// A class of code units, such as the class of the code units that a key can contain.
 pub trait Letters {
     /// Returns whether the class contains the code unit `byte`.
     fn has(byte: u8) -> bool;
