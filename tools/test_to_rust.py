@@ -25,7 +25,7 @@ PAIRS = [('crates/ixdtf/src', 'rust/ixdtf/src'), ('crates/ixdtf_tests/src', 'rus
 # the layers of the library, whose modules are at the root of the crate that is made, or in `parsers`
 LAYERS = ['instants', 'grammar', 'reading', 'times', 'brackets', 'durations']
 AT_THE_ROOT = {'civil', 'days', 'display', 'instant', 'encoding', 'error', 'hint', 'instants', 'located', 'message', 'packed', 'part', 'pointed',
-               'reason', 'records', 'wording', 'classes', 'code', 'codes', 'cursor', 'stop'}
+               'reason', 'records', 'wording', 'classes', 'codes', 'cursor', 'error_code', 'stop'}
 PAIRS += [(f'crates/ixdtf_{layer}/src', 'rust/ixdtf/src') for layer in LAYERS]
 
 
@@ -125,7 +125,7 @@ REMOVED = [phrase(t) for t in ['#![tactic(auto)]', '#[rattlefmt::skip]', 'use st
                                '#[cfg(test)] mod tests;', '#[cfg(test)]', 'pub mod turns;', 'pub mod memory;', 'pub use laws::{ canonical_fits, canonical_is_read_back, duration_fits, duration_is_read_back, month_day_fits, month_day_is_read_back, offset_fits,'
                                ' offset_is_read_back, rfc9557_is_read_back, time_fits, time_is_read_back, year_month_fits, year_month_is_read_back, zone_fits, zone_is_read_back, };', 'use crate::looks::Looks;', 'looks: Looks,', 'looks: Looks::none(),', 'self.looks.tick();',
                                'let common = left.len().min(right.len());', 'self.looks.tick_by(common);', 'self.looks.tick_by(4);',
-                               'looks: std::mem::replace(&mut self.looks, Looks::none()),', 'self.keep_looks(here);', 'self.cursor.keep_looks(here);', 'self.cursor.keep_looks(text.here);',
+                               'looks: std::mem::replace(&mut self.looks, Looks::none()),', 'self.keep_looks(here);', 'self.cursor.keep_looks(here);', 'self.cursor.keep_looks(text.here);', 'text.here.keep_looks(here);',
                                'cursor.keep_looks(again);', 'cursor.keep_looks(front);', '#[inline(always)] pub fn keep_looks(&mut self, here: Self) { self.looks = here.looks; }',
                                'impl PartialEq for LocatedError { fn eq(&self, other: &LocatedError) -> bool { self.at == other.at && self.reason == other.reason && self.error == other.error } }',
                                'impl PartialEq for ParseError { fn eq(&self, other: &ParseError) -> bool'

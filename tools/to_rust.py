@@ -74,7 +74,7 @@ FOR_C = ('#![cfg_attr(not(test), no_std)]\n', '\n#[cfg(not(test))]\nmod abort;\n
 LAYERS = {
     'ixdtf_instants': 'civil days display instant'.split(),
     'ixdtf_grammar': 'encoding error hint instants located message packed part pointed reason records parsers/profile wording'.split(),
-    'ixdtf_reading': 'classes code codes cursor stop parsers/annotations parsers/letters'.split(),
+    'ixdtf_reading': 'classes codes cursor error_code stop parsers/annotations parsers/letters'.split(),
     'ixdtf_times': 'parsers/date_times parsers/dates parsers/months parsers/offsets parsers/rfc3339 parsers/time'.split(),
     'ixdtf_brackets': 'parsers/brackets parsers/exact_zones parsers/zone'.split(),
     'ixdtf_durations': 'parsers/date_groups parsers/duration parsers/group_numbers parsers/time_groups'.split(),
@@ -156,7 +156,7 @@ DERIVED = {('error', 'ParseError'): {'variant_index', 'location'}, ('located', '
 UNSEEN = [phrase.split() for phrase in ['use crate :: looks :: Looks ;', 'looks : Looks ,', 'looks : Looks :: none ( ) ,', 'self . looks . tick ( ) ;',
                                         'let common = left . len ( ) . min ( right . len ( ) ) ;', 'self . looks . tick_by ( common ) ;', 'self . looks . tick_by ( 4 ) ;',
                                         'looks : std :: mem :: replace ( & mut self . looks , Looks :: none ( ) ) ,',
-                                        'self . keep_looks ( here ) ;', 'self . cursor . keep_looks ( here ) ;', 'self . cursor . keep_looks ( text . here ) ;', 'cursor . keep_looks ( again ) ;', 'cursor . keep_looks ( front ) ;']]
+                                        'self . keep_looks ( here ) ;', 'self . cursor . keep_looks ( here ) ;', 'self . cursor . keep_looks ( text . here ) ;', 'text . here . keep_looks ( here ) ;', 'cursor . keep_looks ( again ) ;', 'cursor . keep_looks ( front ) ;']]
 COUNT = '# [ inline ( always ) ] pub fn keep_looks ('.split()
 WRITER, LAST_WRITER, FORMATTER = '< W : fmt :: Write >'.split(), ', W : fmt :: Write > ('.split(), 'fmt :: Formatter < W >'.split()
 USES = {'std::marker::Model': '', 'std::marker::{Model,PhantomData}': 'use std::marker::PhantomData;'}

@@ -1,11 +1,14 @@
 //! Functions that read annotations: a key and a value in brackets.
+//!
+//! Most of these functions begin at the code unit before what they read. They look at the second code unit, and then consume both
+//! with one step.
 
 #![tactic(auto, unfolding(crate::specs::reading::Pairs::pair_readings))]
 
 ghost use Rattle.std.specs.Prelude.{◌≡◌, ◌+◌, ◌≤◌, ◌<◌, ◌*◌, map, length, drop, option_map, true, OnOk, IfOk, IfSome, IsSome};
 ghost use Rattle.ixdtf_grammar.specs.language.Letters.{equals, key_char, value_char};
 ghost use Rattle.ixdtf_reading.specs.reading.Brackets.{next_is};
-ghost use Rattle.ixdtf_reading.specs.reading.Clauses.{Reads, Spends, SpendsOr};
+ghost use Rattle.ixdtf_reading.specs.reading.Clauses.{Reads, ReadsBetween, Spends, SpendsOr, behind};
 ghost use Rattle.ixdtf_reading.specs.reading.Looks.{error_of, mark_by};
 ghost use Rattle.ixdtf_reading.specs.reading.Pairs.{AtStart, BeginsKey, key_run, component_look, value_run, pair_at, critical_pair_at, later_pair_at, next_pair_at};
 ghost use Rattle.ixdtf_grammar.specs.Handlers.{pair_of};
@@ -35,32 +38,26 @@ impl Letters for KeyLetters {
     }
 }
 
-/// Reads a key and the `=` after it, and returns the code units of the key.
+/// Consumes the code unit before a key, and the key. Returns the code units of the key. A `=` follows, which is not consumed.
 ///
 /// The caller has tested the first code unit of the key.
 #[inline(always)]
 pub fn parse_annotation_key<'a, T: EncodingType>(
     cursor: &mut Cursor<'a, T>,
 ) -> Result<&'a [T::CodeUnit], Reason>
-    requires first { BeginsKey (map T.letter cursor.old.rest) }
-    ensures key { Reads T.letter (λ units. map T.number units.now) cursor.old result cursor.new
+    requires first { BeginsKey (drop 1 (map T.letter cursor.old.rest)) }
+    ensures key { ReadsBetween T.letter (λ units. map T.number units.now) cursor.old result cursor.new
         (key_run error_of) }
     ensures looks { SpendsOr 1 0 cursor.old result cursor.new }
-    ensures shorter { OnOk result (length cursor.new.rest < length cursor.old.rest) }
+    ensures shorter { OnOk result (length cursor.new.rest + 2 ≤ length cursor.old.rest) }
 {
-    let start = cursor.rest();
-    cursor.advance();
+    let start = cursor.rest_behind();
+    cursor.advance_by(2);
     let next = pass_letters::<T, KeyLetters>(cursor, Reason::InKey)?;
-    // This slice always exists, as the proof shows. The compiler does not know the proof: because of this test, it
-    // compiles no code for a panic.
-    let Some(key) = start.get(..start.len() - cursor.rest().len()) else {
-        return Err(Reason::InKey);
-    };
     if !ends_key(next) {
         return stopped(Reason::InKey);
     }
-    cursor.advance();
-    Ok(key)
+    Ok(&start[..start.len().saturating_sub(cursor.remaining())])
 }
 
 /// Returns whether the code unit is the `=` after a key.
@@ -83,26 +80,29 @@ impl Letters for ComponentLetters {
     }
 }
 
-/// Consumes the first code unit of a component. Returns `stop` if there is none, and then consumes nothing.
+/// Consumes the code unit before a component, and the first code unit of the component. If there is no component, consumes only the
+/// code unit before it, and returns `stop`.
 #[inline(always)]
 fn start_component<'a, T: EncodingType>(
     cursor: &mut Cursor<'a, T>,
     stop: Reason,
 ) -> Result<(), Reason>
     ensures letter { Reads T.letter (λ _. true) cursor.old result cursor.new
-        (mark_by (component_look stop) value_char) }
-    ensures rest { OnOk result (cursor.new.rest ≡ drop 1 cursor.old.rest) }
-    ensures shorter { OnOk result (length cursor.new.rest < length cursor.old.rest) }
-    ensures looks { SpendsOr 1 0 cursor.old result cursor.new }
+        (behind (mark_by (component_look stop) value_char)) }
+    ensures rest { OnOk result (cursor.new.rest ≡ drop 2 cursor.old.rest) }
+    ensures shorter { OnOk result (length cursor.new.rest + 2 ≤ length cursor.old.rest) }
+    ensures no_longer { length cursor.new.rest ≤ length cursor.old.rest }
+    ensures looks { cursor.new.looks ≡ cursor.old.looks + 1 }
 {
-    if is_annotation_value_component(cursor.byte_at(0)) {
-        cursor.advance();
+    if is_annotation_value_component(cursor.byte_at(1)) {
+        cursor.advance_by(2);
         return Ok(());
     }
+    cursor.advance();
     stopped(stop)
 }
 
-/// Reads a value and the `]` after it, and returns the code units of the value.
+/// Reads the `=` before a value, the value, and the `]` after it. Returns the code units of the value.
 ///
 /// A value consists of components. One hyphen separates each component from the next one.
 #[inline(always)]
@@ -110,23 +110,23 @@ pub fn parse_annotation_value<'a, T: EncodingType>(
     cursor: &mut Cursor<'a, T>,
 ) -> Result<&'a [T::CodeUnit], Reason>
     ensures value { Reads T.letter (λ units. map T.number units.now) cursor.old result cursor.new
-        (value_run error_of AtStart) }
+        (behind (value_run error_of AtStart)) }
     ensures looks { SpendsOr 1 0 cursor.old result cursor.new }
     ensures shorter { IfOk result (λ value.
-        length value.now + length cursor.new.rest < length cursor.old.rest) }
+        length value.now + 2 + length cursor.new.rest ≤ length cursor.old.rest) }
 {
-    let start = cursor.rest();
+    let start = cursor.rest_behind();
     start_component(cursor, Reason::ValueStart)?;
     loop {
         let next = pass_letters::<T, ComponentLetters>(cursor, Reason::InValue)?;
         match next {
             None => return stopped(Reason::InValue),
             Some(byte) if is_annotation_close(byte) => {
+                let value = &start[..start.len().saturating_sub(cursor.remaining())];
                 cursor.advance();
-                let behind = cursor.rest().len() + 1;
-                return Ok(&start[..start.len().saturating_sub(behind)]);
+                return Ok(value);
             }
-            Some(byte) if is_hyphen(byte) => cursor.advance(),
+            Some(byte) if is_hyphen(byte) => {}
             Some(_) => return stopped(Reason::InValue),
         }
         start_component(cursor, Reason::AfterValueHyphen)?;
@@ -135,18 +135,19 @@ pub fn parse_annotation_value<'a, T: EncodingType>(
 
 // ==== Annotations ====
 
-/// Reads an annotation after its `[` or `[!`: a key, `=`, a value and `]`.
+/// Consumes one code unit, and reads an annotation after it: a key, `=`, a value and `]`. The caller has tested the first code unit of
+/// the key.
 #[inline(always)]
 fn parse_pair<'a, T: EncodingType>(
     cursor: &mut Cursor<'a, T>,
     critical: bool,
 ) -> Result<Annotation<'a, T>, Reason>
-    requires first { BeginsKey (map T.letter cursor.old.rest) }
+    requires first { BeginsKey (drop 1 (map T.letter cursor.old.rest)) }
     ensures pair { Reads T.letter (pair_of T.number) cursor.old result cursor.new
-        (pair_at error_of critical) }
+        (behind (pair_at error_of critical)) }
     ensures looks { SpendsOr 2 0 cursor.old result cursor.new }
     ensures shorter { IfOk result (λ pair.
-        length pair.value.now + 2 + length cursor.new.rest ≤ length cursor.old.rest) }
+        length pair.value.now + 4 + length cursor.new.rest ≤ length cursor.old.rest) }
 {
     let key = parse_annotation_key(cursor)?;
     let value = parse_annotation_value(cursor)?;
@@ -157,23 +158,23 @@ fn parse_pair<'a, T: EncodingType>(
     })
 }
 
-/// Reads an annotation after its `[`. The annotation is not in the first bracket of the text.
+/// Reads an annotation at its `[`. The annotation is not in the first bracket of the text.
 #[inline(always)]
 fn parse_later_pair<'a, T: EncodingType>(
     cursor: &mut Cursor<'a, T>,
 ) -> Result<Annotation<'a, T>, Reason>
     ensures pair { Reads T.letter (pair_of T.number) cursor.old result cursor.new
-        (later_pair_at error_of) }
+        (behind (later_pair_at error_of)) }
     ensures looks { SpendsOr 4 2 cursor.old result cursor.new }
     ensures shorter { IfOk result (λ pair.
-        length pair.value.now + 2 + length cursor.new.rest ≤ length cursor.old.rest) }
+        length pair.value.now + 4 + length cursor.new.rest ≤ length cursor.old.rest) }
 {
-    let lead = cursor.byte_at(0);
+    let lead = cursor.byte_at(1);
     if is_a_key_leading_char(lead) {
         return parse_pair(cursor, false);
     }
+    cursor.advance();
     if is_critical_flag(lead) {
-        cursor.advance();
         let mut here = cursor.fork();
         let read = parse_critical_pair(&mut here);
         *cursor = here;
@@ -182,7 +183,7 @@ fn parse_later_pair<'a, T: EncodingType>(
     stopped(Reason::KeyStart)
 }
 
-/// Reads an annotation after its `[!`. The annotation is not in the first bracket of the text.
+/// Reads an annotation at its `!`. The annotation is not in the first bracket of the text.
 ///
 /// The function is not inlined, because critical annotations are rare. Otherwise `parse_later_pair` would have the code
 /// for an annotation twice, and Rattle would not inline it: it ignores `inline(always)` on a function that is too large.
@@ -191,14 +192,15 @@ fn parse_critical_pair<'a, T: EncodingType>(
     cursor: &mut Cursor<'a, T>,
 ) -> Result<Annotation<'a, T>, Reason>
     ensures pair { Reads T.letter (pair_of T.number) cursor.old result cursor.new
-        (critical_pair_at error_of) }
+        (behind (critical_pair_at error_of)) }
     ensures looks { SpendsOr 3 1 cursor.old result cursor.new }
     ensures shorter { IfOk result (λ pair.
-        length pair.value.now + 2 + length cursor.new.rest ≤ length cursor.old.rest) }
+        length pair.value.now + 4 + length cursor.new.rest ≤ length cursor.old.rest) }
 {
-    if is_a_key_leading_char(cursor.byte_at(0)) {
+    if is_a_key_leading_char(cursor.byte_at(1)) {
         return parse_pair(cursor, true);
     }
+    cursor.advance();
     stopped(Reason::CriticalKeyStart)
 }
 
@@ -219,7 +221,6 @@ pub fn next_annotation<'a, T: EncodingType>(
     match cursor.look(Reason::AfterBracket)? {
         None => Ok(None),
         Some(byte) if is_annotation_open(byte) => {
-            cursor.advance();
             let annotation = parse_later_pair(cursor)?;
             Ok(Some(annotation))
         }

@@ -4,13 +4,13 @@
 //! Each line is about one kind of *prefix*. A prefix is the part of a text just before the position of the error. It need not be the
 //! beginning of the text. The error depends on the reason, on what follows the prefix, and on whether the reader reads brackets.
 
-ghost use Rattle.std.specs.Prelude.{◌≡◌, ◌∷◌, [], ℕ, None, IfSome, false};
+ghost use Rattle.std.specs.Prelude.{◌≡◌, ◌∷◌, [], ℕ, false};
 ghost use Rattle.ixdtf_grammar.specs.language.Letters.{Text};
 ghost use Rattle.ixdtf_grammar.specs.language.Letters.Letter.{Plain, Bad};
 ghost use Rattle.ixdtf_reading.specs.reading.Stops.{IsNext, fault_at, fault_of_code};
 
-use crate::code::Code;
-use crate::code::Code::*;
+use crate::error_code::Code;
+use crate::error_code::Code::*;
 use ixdtf_grammar::Reason;
 
 /// What the text has at the position of an error. The prefix ends at this position.
@@ -40,7 +40,7 @@ pub fn code_of(reason: Reason, brackets: bool, next: Next) -> Code
         Next::Bad => codes.1,
         Next::Byte(byte) => {
             if codes.3 {
-                return code_at(reason, brackets, byte).unwrap_or(codes.2);
+                return code_at(reason, brackets, byte, codes.2);
             }
             codes.2
         }
@@ -66,26 +66,30 @@ fn codes_of(reason: Reason, brackets: bool) -> &'static Codes
     &LONE_CODES[reason as usize]
 }
 
-/// If the line of a reason has another error at this byte than at most other code units, returns the code of that error.
+/// Returns the code of the error at this byte. Most other code units have the code `usual`. The result is another code if the line of
+/// the reason has another error at this byte.
+///
+/// If the function returned an `Option`, `code_of` would need `usual` after the call. Then the compiled code of each reader would
+/// save a register, also for a text without an error.
 #[cold]
 #[inline(never)]
-fn code_at(reason: Reason, brackets: bool, byte: u8) -> Option<Code>
-    ensures some { IfSome result (λ code. (rest : Text) → fault_of_code code ≡ fault_at brackets reason (Plain byte ∷ rest)) }
-    ensures none { result ≡ None → (rest : Text) → fault_at brackets reason (Plain byte ∷ rest) ≡ fault_at brackets reason (Plain 1 ∷ []) }
+fn code_at(reason: Reason, brackets: bool, byte: u8, usual: Code) -> Code
+    requires { fault_of_code usual ≡ fault_at brackets reason (Plain 1 ∷ []) }
+    ensures { (rest : Text) → fault_of_code result ≡ fault_at brackets reason (Plain byte ∷ rest) }
 {
     let mixes = byte == b':' || byte.is_ascii_digit();
     match reason {
-        Reason::AfterBasicMonth if byte == b'-' => Some(Code::DateSeparator),
-        Reason::AfterBasicMinute | Reason::AfterColonMinute if mixes => Some(Code::TimeSeparator),
-        Reason::OffsetAfterBasicMinute | Reason::OffsetAfterColonMinute if mixes => Some(
-            Code::UtcTimeSeparator,
-        ),
-        Reason::ZoneOffsetAfterBasicMinute | Reason::ZoneOffsetAfterColonMinute if mixes => Some(
-            Code::InvalidMinutePrecisionOffset,
-        ),
-        Reason::AfterSecondField if byte == b'.' || byte == b',' => Some(Code::FractionPart),
-        Reason::InZoneName if !brackets && byte == b']' => Some(Code::InvalidEnd),
-        _ => None,
+        Reason::AfterBasicMonth if byte == b'-' => Code::DateSeparator,
+        Reason::AfterBasicMinute | Reason::AfterColonMinute if mixes => Code::TimeSeparator,
+        Reason::OffsetAfterBasicMinute | Reason::OffsetAfterColonMinute if mixes => {
+            Code::UtcTimeSeparator
+        }
+        Reason::ZoneOffsetAfterBasicMinute | Reason::ZoneOffsetAfterColonMinute if mixes => {
+            Code::InvalidMinutePrecisionOffset
+        }
+        Reason::AfterSecondField if byte == b'.' || byte == b',' => Code::FractionPart,
+        Reason::InZoneName if !brackets && byte == b']' => Code::InvalidEnd,
+        _ => usual,
     }
 }
 

@@ -94,13 +94,14 @@ impl<'a, T: EncodingType> Cursor<'a, T> {
 
     /// Returns a second cursor at the same position. `self` keeps its remaining input.
     ///
-    /// There are two uses of the second cursor:
+    /// There are three uses of the second cursor:
     ///
     /// - A function that must consume nothing on failure works on the second cursor. It stores the second cursor in `self` only
     ///   if it succeeds.
-    /// - A function with a loop works on the second cursor, because the compiler can keep this local variable in registers. A
-    ///   function with a call that is not inlined passes the second cursor to the call, so that the compiler can keep the first
-    ///   cursor in registers. Both always store the second cursor in `self` at their end.
+    /// - Some functions with a loop, such as `pass_letters`, work on the second cursor, because the compiler can keep this local
+    ///   variable in registers. After the loop, such a function always stores the second cursor in `self`.
+    /// - Some functions call a function that the compiler does not inline, and pass the second cursor to it. The compiler can then
+    ///   keep the first cursor in registers. After the call, such a function always stores the second cursor in `self`.
     #[inline(always)]
     pub fn fork(&mut self) -> Self
         // The count of accesses moves to the second cursor.
@@ -217,6 +218,17 @@ impl<'a, T: EncodingType> Cursor<'a, T> {
         ensures looks { self.new.looks ≡ self.old.looks + 1 }
     {
         self.look_at(0, stop)
+    }
+
+    /// Returns the remaining code units after the first one. Returns none if the remaining input is empty.
+    #[inline(always)]
+    pub fn rest_behind(&self) -> &'a [T::CodeUnit]
+        ensures { map T.number result.now ≡ drop 1 self.now.rest }
+    {
+        if let [_, rest @ ..] = self.rest {
+            return rest;
+        }
+        self.rest
     }
 
     /// Consumes the first code unit, if there is one.

@@ -3,7 +3,7 @@
 //! - `cursor` has the cursor on the remaining input. `looks` has the count of accesses to code units.
 //! - `classes` has the classes of characters. `letters` consumes the code units of one class.
 //! - `annotations` reads keys, values and annotations.
-//! - `code` has a code of one byte for each error, and `codes` has the tables of the codes. `stop` makes the errors.
+//! - `error_code` has a code of one byte for each error, and `codes` has the tables of the codes. `stop` makes the errors.
 //!
 //! Some words of the comments of this crate come from `ixdtf_grammar`:
 //!
@@ -29,9 +29,9 @@
 
 pub mod annotations;
 pub mod classes;
-pub mod code;
 pub mod codes;
 pub mod cursor;
+pub mod error_code;
 pub mod letters;
 pub mod looks;
 pub mod stop;

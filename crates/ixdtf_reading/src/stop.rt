@@ -5,7 +5,7 @@ ghost use Rattle.ixdtf_grammar.specs.table.Faults.{Fault};
 ghost use Rattle.ixdtf_grammar.specs.declared.reason.Reason.{Reason};
 ghost use Rattle.ixdtf_reading.specs.reading.Stops.{fault_of_code};
 
-use crate::code::Code;
+use crate::error_code::Code;
 use ixdtf_grammar::{LocatedError, ParseError, Reason};
 
 /// Returns `Err(stop)`.

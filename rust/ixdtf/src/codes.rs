@@ -6,8 +6,8 @@
 //! Each line is about one kind of *prefix*. A prefix is the part of a text just before the position of the error. It need not be the
 //! beginning of the text. The error depends on the reason, on what follows the prefix, and on whether the reader reads brackets.
 
-use crate::code::Code;
-use crate::code::Code::*;
+use crate::error_code::Code;
+use crate::error_code::Code::*;
 use crate::Reason;
 
 /// What the text has at the position of an error. The prefix ends at this position.
@@ -35,7 +35,7 @@ pub fn code_of(reason: Reason, brackets: bool, next: Next) -> Code {
         Next::Bad => codes.1,
         Next::Byte(byte) => {
             if codes.3 {
-                return code_at(reason, brackets, byte).unwrap_or(codes.2);
+                return code_at(reason, brackets, byte, codes.2);
             }
             codes.2
         }
@@ -54,23 +54,27 @@ fn codes_of(reason: Reason, brackets: bool) -> &'static Codes {
     &LONE_CODES[reason as usize]
 }
 
-/// If the line of a reason has another error at this byte than at most other code units, returns the code of that error.
+/// Returns the code of the error at this byte. Most other code units have the code `usual`. The result is another code if the line of
+/// the reason has another error at this byte.
+///
+/// If the function returned an `Option`, `code_of` would need `usual` after the call. Then the compiled code of each reader would
+/// save a register, also for a text without an error.
 #[cold]
 #[inline(never)]
-fn code_at(reason: Reason, brackets: bool, byte: u8) -> Option<Code> {
+fn code_at(reason: Reason, brackets: bool, byte: u8, usual: Code) -> Code {
     let mixes = byte == b':' || byte.is_ascii_digit();
     match reason {
-        Reason::AfterBasicMonth if byte == b'-' => Some(Code::DateSeparator),
-        Reason::AfterBasicMinute | Reason::AfterColonMinute if mixes => Some(Code::TimeSeparator),
-        Reason::OffsetAfterBasicMinute | Reason::OffsetAfterColonMinute if mixes => Some(
-            Code::UtcTimeSeparator,
-        ),
-        Reason::ZoneOffsetAfterBasicMinute | Reason::ZoneOffsetAfterColonMinute if mixes => Some(
-            Code::InvalidMinutePrecisionOffset,
-        ),
-        Reason::AfterSecondField if byte == b'.' || byte == b',' => Some(Code::FractionPart),
-        Reason::InZoneName if !brackets && byte == b']' => Some(Code::InvalidEnd),
-        _ => None,
+        Reason::AfterBasicMonth if byte == b'-' => Code::DateSeparator,
+        Reason::AfterBasicMinute | Reason::AfterColonMinute if mixes => Code::TimeSeparator,
+        Reason::OffsetAfterBasicMinute | Reason::OffsetAfterColonMinute if mixes => {
+            Code::UtcTimeSeparator
+        }
+        Reason::ZoneOffsetAfterBasicMinute | Reason::ZoneOffsetAfterColonMinute if mixes => {
+            Code::InvalidMinutePrecisionOffset
+        }
+        Reason::AfterSecondField if byte == b'.' || byte == b',' => Code::FractionPart,
+        Reason::InZoneName if !brackets && byte == b']' => Code::InvalidEnd,
+        _ => usual,
     }
 }
 

@@ -10,13 +10,13 @@ extern crate self as ixdtf;
 
 mod civil;
 mod classes;
-mod code;
 mod codes;
 mod cursor;
 mod days;
 mod display;
 pub mod encoding;
 mod error;
+mod error_code;
 mod hint;
 mod instant;
 mod instants;

@@ -2,7 +2,7 @@
 
 //! Makes the error of a reader from a `Reason`, a code and a position.
 
-use crate::code::Code;
+use crate::error_code::Code;
 use crate::{LocatedError, ParseError, Reason};
 
 /// Returns `Err(stop)`.

@@ -1,6 +1,6 @@
 -- The first code unit of a text as a byte, which is 0 if there is none, and what the reading functions do by it.
 use Rattle.ixdtf_grammar.specs.declared.reason.Reason.{Reason}
-use Rattle.std.proofs.Common.{◌≡◌, ◌∙◌, ◌+◌, ℕ, true, false, List, [], ◌∷◌, length, map, drop, Result, Ok, Err, refl, ap, arith}
+use Rattle.std.proofs.Common.{◌≡◌, ◌∙◌, ◌+◌, ◌≤◌, ℕ, true, false, List, [], ◌∷◌, length, map, drop, Result, Ok, Err, refl, ap, arith}
 use Rattle.std.proofs.lemmas.Bool.Decides.{nat_tests}
 use Rattle.ixdtf_grammar.specs.language.Letters.{Letter, Text, Class, value_char, key_lead, exclamation, Letter.{Plain, Bad}}
 use Rattle.ixdtf_grammar.specs.table.LineNames.{LineName.of_pair, PairLine.{key_start, critical_key_start}}
@@ -36,6 +36,32 @@ module _ (class : Class) (zero_out : class 0 ≡ false) where
       → length next + 1 ≡ length units
   one_fewer letter [] next is moved = absurd cc
   one_fewer letter (unit ∷ units) next is moved = omega (arith, ap (λ t. length t) moved)
+
+-- ---- what follows the first code unit
+
+pub one_behind : (letter : ℕ → Letter) (units : List ℕ) → drop 1 (map letter units) ≡ map letter (drop 1 units)
+one_behind letter [] = refl
+one_behind letter (unit ∷ units) = refl
+
+pub two_behind : (letter : ℕ → Letter) (units : List ℕ) → drop 1 (drop 1 (map letter units)) ≡ map letter (drop 2 units)
+two_behind letter [] = refl
+two_behind letter (unit ∷ []) = refl
+two_behind letter (unit ∷ (next ∷ units)) = refl
+
+pub drop_two : (units : List ℕ) → drop 2 units ≡ drop 1 (drop 1 units)
+drop_two [] = refl
+drop_two (unit ∷ units) = refl
+
+-- If a class that does not contain 0 has the second code unit, the source has two code units.
+pub two_there : (class : Class) → class 0 ≡ false → (letter : ℕ → Letter) (units : List ℕ) → class (byte_place 1 (map letter units)) ≡ true → 2 ≤ length units
+two_there class zero_out letter [] is = absurd cc
+two_there class zero_out letter (unit ∷ []) is = absurd cc
+two_there class zero_out letter (unit ∷ (next ∷ units)) is = omega arith
+
+pub key_there : (letter : ℕ → Letter) (units : List ℕ) → BeginsKey (drop 1 (map letter units)) → 2 ≤ length units
+key_there letter [] begins = absurd begins
+key_there letter (unit ∷ []) begins = absurd begins
+key_there letter (unit ∷ (next ∷ units)) begins = omega arith
 
 -- ---- components of values
 

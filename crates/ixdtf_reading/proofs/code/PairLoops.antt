@@ -9,6 +9,7 @@ use Rattle.ixdtf_reading.specs.reading.{Looks.{Placed, look_at, seen, next_by, m
 use Rattle.ixdtf_reading.specs.reading.Brackets.{next_is}
 use Rattle.ixdtf_reading.specs.reading.Runs.{Taken, always, letters_by, key_after, component_after}
 use Rattle.ixdtf_reading.proofs.code.{FirstLetter.{first_is as letter_first, nothing_is}, LetterLoops.{test_held, test_failed, first_is, Stays, next_shown}}
+use Rattle.ixdtf_reading.proofs.code.FirstBytes.{drop_two, one_behind}
 use Rattle.ixdtf_reading.proofs.code.LetterLoops.{next_stays, run_failed, run_passed, IsFar, one_far, more_far, far_fails}
 use Rattle.ixdtf_reading.proofs.parts.Steps.{with_letters, letters_err, letters_ok}
 use Rattle.ixdtf_grammar.specs.{language.Letters.{Letter, Text, equals, hyphen, closing, key_lead, key_char, value_char, Letter.{Plain, Bad}}, table.LineNames.{LineName.of_pair, PairLine.in_key}}
@@ -87,6 +88,13 @@ key_behind letter faithful (u ∷ more) left begins moved = go (letter u) refl b
         (u, ap (λ t. u ∷ t) (sym moved), rw (is, char, moved, faithful u n is) refl)
     go Bad is none = absurd none
 
+-- As above, for a key after the first code unit.
+pub key_after_one : (letter : ℕ → Letter) → ((unit n : ℕ) → letter unit ≡ Plain n → n ≡ unit) → (units left : List ℕ) → BeginsKey (drop 1 (map letter units))
+    → left ≡ drop 2 units
+    → (c : ℕ) × (drop 1 units ≡ c ∷ left) × (key_run error_of (drop 1 (map letter units)) ≡ with_letter c (key_run error_of (map letter left)))
+key_after_one letter faithful [] left begins moved = absurd begins
+key_after_one letter faithful (unit ∷ units) left begins moved = key_behind letter faithful units left begins moved
+
 -- ---- values
 
 -- The `Reason` of a value in this state.
@@ -161,6 +169,16 @@ module _ (letter : ℕ → Letter) (faithful : (unit n : ℕ) → letter unit �
     value_starts stop left e moved =
         let (c, found, is) = started stop (map letter rest) (map letter left) e in
         one_far far _ faithful left Inside c found (λ more. value_on state Inside c more (at_letter state c is)) moved
+
+  -- As above, for what follows the first remaining code unit.
+  module _ (rest : List ℕ) (state : ValueState) (far : ValueSoFar letter whole (drop 1 rest) state) where
+    pub value_fails_behind : (fault : Placed) → value_run error_of state (drop 1 (map letter rest)) ≡ Err fault → value_run error_of AtStart (map letter whole) ≡ Err fault
+    value_fails_behind fault e = value_fails (drop 1 rest) state far fault (ap (value_run error_of state) (sym (one_behind letter rest)) ∙ e)
+
+    pub value_starts_behind : (stop : Reason) (left : List ℕ)
+        → mark_by (component_look stop) value_char (drop 1 (map letter rest)) ≡ Ok (true, map letter left) → left ≡ drop 2 rest → Far left Inside
+    value_starts_behind stop left e moved =
+        value_starts (drop 1 rest) state far stop left (ap (mark_by (component_look stop) value_char) (sym (one_behind letter rest)) ∙ e) (moved ∙ drop_two rest)
 
   module _ (rest : List ℕ) (far : ValueSoFar letter whole rest Inside) (letters : Unit {0}) where
     -- Reading a component failed.

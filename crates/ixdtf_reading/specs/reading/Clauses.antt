@@ -1,6 +1,6 @@
 -- The statements that the clauses of private functions use, and the meaning of the types of the code. No public clause uses them.
 use Rattle.ixdtf_grammar.specs.declared.reason.Reason.{Reason}
-use Rattle.std.specs.Prelude.{◌≡◌, ◌↔◌, ℕ, Bool, IsTrue, IsFalse, OnOk, IfErr, ◌+◌, ◌≤◌, ◌∷◌, [], map, length, Option, Some, None, Result, Ok, Err, ◌++◌}
+use Rattle.std.specs.Prelude.{◌≡◌, ◌↔◌, ℕ, Bool, IsTrue, IsFalse, OnOk, IfErr, ◌+◌, ◌≤◌, ◌∷◌, [], map, length, drop, Option, Some, None, Result, Ok, Err, ◌++◌}
 use Rattle.std.specs.Prelude.{if◌then◌else◌}
 use Rattle.ixdtf_grammar.specs.declared.{profile.Profile.Profile, records.{DateRecord.DateRecord, IxdtfParseRecord.IxdtfParseRecord}}
 use Rattle.ixdtf_grammar.specs.language.{Letters.{Letter, Letter.Plain, Text, ◌or◌, none, digit, hyphen, closing}, Fractions.{FractionParts, fraction_of}}
@@ -39,6 +39,16 @@ stopped_by stop (Err fault) = Err stop
 abbrev pub Reads : {X Y : Type 0} → (ℕ → Letter) → (X → Y) → Unread → Result X Reason → Unread → (Text → Read Placed Y) → Type 0
 Reads letter view old (Ok x) new reading = reading (map letter old.rest) ≡ Ok (view x, map letter new.rest)
 Reads letter view old (Err stop) new reading = reading (map letter old.rest) ≡ Err (stop, map letter new.rest)
+
+-- The reading function reads after the first code unit of the text.
+abbrev pub behind : {X : Type 0} → (Text → X) → Text → X
+behind reading text = reading (drop 1 text)
+
+-- As `Reads`. But the function also consumes the code unit before the input of the reading function. If it succeeds, it does not consume
+-- the last code unit that the reading function consumes.
+abbrev pub ReadsBetween : {X Y : Type 0} → (ℕ → Letter) → (X → Y) → Unread → Result X Reason → Unread → (Text → Read Placed Y) → Type 0
+ReadsBetween letter view old (Ok x) new reading = reading (drop 1 (map letter old.rest)) ≡ Ok (view x, drop 1 (map letter new.rest))
+ReadsBetween letter view old (Err stop) new reading = reading (drop 1 (map letter old.rest)) ≡ Err (stop, map letter new.rest)
 
 -- A public function returns the value of a private function, or the error of its `Reason`. `brackets` says whether the reader reads
 -- brackets, and `left` is the text from the position of the `Reason` on.

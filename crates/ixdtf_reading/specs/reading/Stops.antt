@@ -1,7 +1,7 @@
 -- The fault of a reason, by what follows the prefix of its line.
 use Rattle.ixdtf_grammar.specs.declared.reason.Reason.{Reason}
 use Rattle.ixdtf_grammar.specs.declared.reason.Reason.TheVariants as reasons
-use Rattle.ixdtf_reading.specs.declared.code.Code.TheVariants as codes_of
+use Rattle.ixdtf_reading.specs.declared.error_code.Code.TheVariants as codes_of
 use Rattle.ixdtf_reading.specs.declared.codes.Next.TheVariants as nexts
 use Rattle.std.specs.Prelude.{◌≡◌, ◌⊎◌, ℕ, Bool, List, [], ◌∷◌}
 use Rattle.ixdtf_grammar.specs.{declared.profile.Profile.{Profile, TheVariants.Crate}, language.{Letters.{Text, Letter.{Plain, Bad}}, Times.{Clock, Clock.{Time, Offset, MinuteOffset}}, Durations.{Half as halves}}}
@@ -23,7 +23,7 @@ use Rattle.ixdtf_grammar.specs.table.LineNames.ZoneLine.{identifier_start, zone_
 use Rattle.ixdtf_grammar.specs.table.LineNames.BracketLine.{first_bracket_start, first_critical_start, first_bracket_scan, first_dots_form, first_name_form, first_offset_form, after_bracket}
 use Rattle.ixdtf_grammar.specs.table.LineNames.PairLine.{key_start, critical_key_start, in_key, value_start, in_value, after_value_hyphen}
 use Rattle.ixdtf_grammar.specs.table.LineNames.DurationLine.{duration_start, after_duration_sign, after_duration_designator, after_date_groups, after_time_designator, after_time_groups, after_fraction_group, group_digits, group_value_range, unit_order, date_unit_range, group_fraction_start, group_fraction_digits}
-use Rattle.ixdtf_reading.specs.declared.{code.Code.Code, codes.Next.Next}
+use Rattle.ixdtf_reading.specs.declared.{codes.Next.Next, error_code.Code.Code}
 pub use Rattle.ixdtf_grammar.specs.table.Reasons.{reason_of, core_reason, clock_reason, offset_reason, date_time_reason, zone_reason, bracket_reason, pair_reason, duration_reason, date_reason, year_month_reason, month_day_reason, time_reason, Refuses}
 
 -- ---- the fault of a `Reason`

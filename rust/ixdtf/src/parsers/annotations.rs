@@ -25,26 +25,20 @@ impl Letters for KeyLetters {
     }
 }
 
-/// Reads a key and the `=` after it, and returns the code units of the key.
+/// Consumes the code unit before a key, and the key. Returns the code units of the key. A `=` follows, which is not consumed.
 ///
 /// The caller has tested the first code unit of the key.
 #[inline(always)]
 pub fn parse_annotation_key<'a, T: EncodingType>(
     cursor: &mut Cursor<'a, T>,
 ) -> Result<&'a [T::CodeUnit], Reason> {
-    let start = cursor.rest();
-    cursor.advance();
+    let start = cursor.rest_behind();
+    cursor.advance_by(2);
     let next = pass_letters::<T, KeyLetters>(cursor, Reason::InKey)?;
-    // This slice always exists, as the proof shows. The compiler does not know the proof: because of this test, it
-    // compiles no code for a panic.
-    let Some(key) = start.get(..start.len() - cursor.rest().len()) else {
-        return Err(Reason::InKey);
-    };
     if !ends_key(next) {
         return stopped(Reason::InKey);
     }
-    cursor.advance();
-    Ok(key)
+    Ok(&start[..start.len().saturating_sub(cursor.remaining())])
 }
 
 /// Returns whether the code unit is the `=` after a key.
@@ -63,38 +57,40 @@ impl Letters for ComponentLetters {
     }
 }
 
-/// Consumes the first code unit of a component. Returns `stop` if there is none, and then consumes nothing.
+/// Consumes the code unit before a component, and the first code unit of the component. If there is no component, consumes only the
+/// code unit before it, and returns `stop`.
 #[inline(always)]
 fn start_component<'a, T: EncodingType>(
     cursor: &mut Cursor<'a, T>,
     stop: Reason,
 ) -> Result<(), Reason> {
-    if is_annotation_value_component(cursor.byte_at(0)) {
-        cursor.advance();
+    if is_annotation_value_component(cursor.byte_at(1)) {
+        cursor.advance_by(2);
         return Ok(());
     }
+    cursor.advance();
     stopped(stop)
 }
 
-/// Reads a value and the `]` after it, and returns the code units of the value.
+/// Reads the `=` before a value, the value, and the `]` after it. Returns the code units of the value.
 ///
 /// A value consists of components. One hyphen separates each component from the next one.
 #[inline(always)]
 pub fn parse_annotation_value<'a, T: EncodingType>(
     cursor: &mut Cursor<'a, T>,
 ) -> Result<&'a [T::CodeUnit], Reason> {
-    let start = cursor.rest();
+    let start = cursor.rest_behind();
     start_component(cursor, Reason::ValueStart)?;
     loop {
         let next = pass_letters::<T, ComponentLetters>(cursor, Reason::InValue)?;
         match next {
             None => return stopped(Reason::InValue),
             Some(byte) if is_annotation_close(byte) => {
+                let value = &start[..start.len().saturating_sub(cursor.remaining())];
                 cursor.advance();
-                let behind = cursor.rest().len() + 1;
-                return Ok(&start[..start.len().saturating_sub(behind)]);
+                return Ok(value);
             }
-            Some(byte) if is_hyphen(byte) => cursor.advance(),
+            Some(byte) if is_hyphen(byte) => {}
             Some(_) => return stopped(Reason::InValue),
         }
         start_component(cursor, Reason::AfterValueHyphen)?;
@@ -103,7 +99,8 @@ pub fn parse_annotation_value<'a, T: EncodingType>(
 
 // ==== Annotations ====
 
-/// Reads an annotation after its `[` or `[!`: a key, `=`, a value and `]`.
+/// Consumes one code unit, and reads an annotation after it: a key, `=`, a value and `]`. The caller has tested the first code unit of
+/// the key.
 #[inline(always)]
 fn parse_pair<'a, T: EncodingType>(
     cursor: &mut Cursor<'a, T>,
@@ -118,17 +115,17 @@ fn parse_pair<'a, T: EncodingType>(
     })
 }
 
-/// Reads an annotation after its `[`. The annotation is not in the first bracket of the text.
+/// Reads an annotation at its `[`. The annotation is not in the first bracket of the text.
 #[inline(always)]
 fn parse_later_pair<'a, T: EncodingType>(
     cursor: &mut Cursor<'a, T>,
 ) -> Result<Annotation<'a, T>, Reason> {
-    let lead = cursor.byte_at(0);
+    let lead = cursor.byte_at(1);
     if is_a_key_leading_char(lead) {
         return parse_pair(cursor, false);
     }
+    cursor.advance();
     if is_critical_flag(lead) {
-        cursor.advance();
         let mut here = cursor.fork();
         let read = parse_critical_pair(&mut here);
         *cursor = here;
@@ -137,7 +134,7 @@ fn parse_later_pair<'a, T: EncodingType>(
     stopped(Reason::KeyStart)
 }
 
-/// Reads an annotation after its `[!`. The annotation is not in the first bracket of the text.
+/// Reads an annotation at its `!`. The annotation is not in the first bracket of the text.
 ///
 /// The function is not inlined, because critical annotations are rare. Otherwise `parse_later_pair` would have the code
 /// for an annotation twice, and Rattle would not inline it: it ignores `inline(always)` on a function that is too large.
@@ -145,9 +142,10 @@ fn parse_later_pair<'a, T: EncodingType>(
 fn parse_critical_pair<'a, T: EncodingType>(
     cursor: &mut Cursor<'a, T>,
 ) -> Result<Annotation<'a, T>, Reason> {
-    if is_a_key_leading_char(cursor.byte_at(0)) {
+    if is_a_key_leading_char(cursor.byte_at(1)) {
         return parse_pair(cursor, true);
     }
+    cursor.advance();
     stopped(Reason::CriticalKeyStart)
 }
 
@@ -159,7 +157,6 @@ pub fn next_annotation<'a, T: EncodingType>(
     match cursor.look(Reason::AfterBracket)? {
         None => Ok(None),
         Some(byte) if is_annotation_open(byte) => {
-            cursor.advance();
             let annotation = parse_later_pair(cursor)?;
             Ok(Some(annotation))
         }

@@ -89,7 +89,6 @@ fn parse_name_or_pair<'a, T: EncodingType>(
     let behind_key = cursor.rest();
     let key = &start[..start.len().saturating_sub(behind_key.len())];
     if ends_key(next) {
-        cursor.advance();
         let value = parse_annotation_value(cursor)?;
         return Ok(Bracket::Pair(Annotation {
             critical,

@@ -16,14 +16,14 @@ pub returns-in_err-value-clause-bracket : goal.returns-in_err-value-clause-brack
 returns-in_err-value-clause-bracket g c =
     let p = err_from_is_err_and c.from_residual-in_err-value.result c.from_residual-in_err-value.ensures.1 in
     rw (p.1, p.2) (value_failed _ _ _ _ _ c.in_ok-next.ensures.letters.2 (sym c.ends_key.ensures ∙ c.if-ends_key.true) _
-    (rw c.advance.ensures.letters at c.in_err-value.ensures.value))
+    c.in_err-value.ensures.value)
 
 pub returns-then-ends_key-clause-bracket : goal.returns-then-ends_key-clause-bracket
 returns-then-ends_key-clause-bracket g c =
     let keys = c.in_ok-next.ensures.letters in
     let front = front_is g.T.EncodingType.number c.rest-start.result.now c.rest-behind_key.result.now keys.0 c.pass_letters.new.cursor.rest _ c.rest-start.ensures
     keys.1 c.rest-behind_key.ensures in
-    rw (c.saturating_sub.ensures, front) (pair_read _ _ _ _ _ keys.2 (sym c.ends_key.ensures ∙ c.if-ends_key.true) _ _ (rw c.advance.ensures.letters at c.in_ok-value.ensures.value))
+    rw (c.saturating_sub.ensures, front) (pair_read _ _ _ _ _ keys.2 (sym c.ends_key.ensures ∙ c.if-ends_key.true) _ _ c.in_ok-value.ensures.value)
 
 pub returns-in_err-more-clause-bracket : goal.returns-in_err-more-clause-bracket
 returns-in_err-more-clause-bracket g c =
@@ -40,7 +40,7 @@ returns-then-ends_bracket-clause-bracket g c =
     split c.rest.ensures in
     let is : (c.in_ok-more.more.state.may_end && next_is closing c.in_ok-more.more.next) ≡ true =
     rw c.if-more.true (sym c.ends_bracket.ensures ∙ c.if-ends_bracket.true) in
-    rw (c.saturating_sub-count.ensures, front, c.advance-then-ends_bracket.ensures.letters) (name_read _ _ _ _ _ keys.2 _ _ passed.2 is)
+    rw (c.saturating_sub-count.ensures, front, c.advance.ensures.letters) (name_read _ _ _ _ _ keys.2 _ _ passed.2 is)
 
 -- The text ends in the bracket.
 pub returns-then-is_none-clause-bracket : goal.returns-then-is_none-clause-bracket

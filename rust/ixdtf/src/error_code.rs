@@ -1,4 +1,4 @@
-// Made by tools/to_rust.py of crates/ixdtf_reading/src/code.rt. Do not edit.
+// Made by tools/to_rust.py of crates/ixdtf_reading/src/error_code.rt. Do not edit.
 
 //! The code of an error. A code has one byte.
 
