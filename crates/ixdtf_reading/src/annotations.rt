@@ -1,7 +1,7 @@
 //! Functions that read annotations: a key and a value in brackets.
 //!
-//! Most of these functions begin at the code unit before what they read. They look at the second code unit, and then consume both
-//! with one step.
+//! Most of these functions begin at the code unit before the part that they read, for example at the `[` before a key. The function
+//! or its caller tests the first code unit of the part. If this code unit fits, one step consumes both code units.
 
 #![tactic(auto, unfolding(crate::specs::reading::Pairs::pair_readings))]
 

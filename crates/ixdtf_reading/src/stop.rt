@@ -20,7 +20,7 @@ pub fn stopped<R>(stop: Reason) -> Result<R, Reason>
     Err(stop)
 }
 
-/// A reason, the code of its error, and its position.
+/// A reason, the code of the error of this reason, and the position of this error.
 #[derive(Clone, Copy)]
 pub struct StopAt {
     /// The reason.

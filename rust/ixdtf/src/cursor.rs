@@ -147,7 +147,7 @@ impl<'a, T: EncodingType> Cursor<'a, T> {
         self.look_at(0, stop)
     }
 
-    /// Returns the remaining code units after the first one. Returns none if the remaining input is empty.
+    /// Returns the remaining code units after the first one. Returns an empty slice if the remaining input is empty.
     #[inline(always)]
     pub fn rest_behind(&self) -> &'a [T::CodeUnit] {
         if let [_, rest @ ..] = self.rest {

@@ -61,7 +61,8 @@ pub enum Code {
 impl Code {
     /// Returns the `ParseError` of this code.
     ///
-    /// The function is inlined, so that a reader that calls it needs no function call.
+    /// The function is inlined. So the compiled code of a caller takes the error directly from the table of errors, without a function
+    /// call.
     #[inline(always)]
     pub fn error(self) -> ParseError {
         ERRORS[self as usize]

@@ -1,6 +1,9 @@
 // Made by tools/to_rust.py of crates/ixdtf_reading/src/annotations.rt. Do not edit.
 
 //! Functions that read annotations: a key and a value in brackets.
+//!
+//! Most of these functions begin at the code unit before the part that they read, for example at the `[` before a key. The function
+//! or its caller tests the first code unit of the part. If this code unit fits, one step consumes both code units.
 
 use crate::classes::{
     is_a_key_char, is_a_key_leading_char, is_annotation_close, is_annotation_key_value_separator,
