@@ -1,7 +1,8 @@
 //! Functions that read annotations: a key and a value in brackets.
 //!
 //! Most of these functions begin at the code unit before the part that they read, for example at the `[` before a key. The function
-//! or its caller tests the first code unit of the part. If this code unit fits, one step consumes both code units.
+//! or its caller tests the first code unit of the part. If the test succeeds, the function consumes two code units in one step: the
+//! one before the part, and the first one of the part.
 
 #![tactic(auto, unfolding(crate::specs::reading::Pairs::pair_readings))]
 
@@ -38,7 +39,8 @@ impl Letters for KeyLetters {
     }
 }
 
-/// Consumes the code unit before a key, and the key. Returns the code units of the key. A `=` follows, which is not consumed.
+/// Consumes the code unit before a key, and the key. Returns the code units of the key. Returns `InKey` if no `=` follows the key. The
+/// `=` is not consumed.
 ///
 /// The caller has tested the first code unit of the key.
 #[inline(always)]
@@ -68,7 +70,7 @@ pub fn ends_key(next: Option<u8>) -> bool
     matches!(next, Some(byte) if is_annotation_key_value_separator(byte))
 }
 
-/// The class of the code units that a component of a value can contain.
+/// The class of the code units that a component of a value can contain. The components of a value are its parts between hyphens.
 pub struct ComponentLetters;
 
 impl Letters for ComponentLetters {

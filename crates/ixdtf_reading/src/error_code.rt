@@ -6,8 +6,8 @@ ghost use Rattle.ixdtf_reading.specs.reading.Stops.{fault_of_code};
 
 use ixdtf_grammar::ParseError;
 
-/// The code of an error. There is one variant for each error that a reader can return. The error `ParseError::AbruptEnd` has
-/// a location, and there is one variant for each of its locations.
+/// The code of an error that a reader can return. Most errors have one variant. `ParseError::AbruptEnd` has several variants: one for
+/// each value of its field `location`.
 #[derive(Clone, Copy)]
 pub enum Code {
     NonAsciiCodePoint,
@@ -63,8 +63,8 @@ pub enum Code {
 impl Code {
     /// Returns the `ParseError` of this code.
     ///
-    /// The function is inlined. So the compiled code of a caller takes the error directly from the table of errors, without a function
-    /// call.
+    /// A constant array has the `ParseError` of each code. The function is inlined, so the compiled code of a caller takes the error
+    /// directly from this array.
     #[inline(always)]
     pub fn error(self) -> ParseError
         ensures { fault_of result ≡ fault_of_code self }

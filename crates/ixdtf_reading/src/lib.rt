@@ -1,4 +1,4 @@
-//! The parts that all readers share.
+//! The code that all readers share. A *reader* is a parsing method of the library `ixdtf`, such as `IxdtfParser::parse`.
 //!
 //! - `cursor` has the cursor on the remaining input. `looks` has the count of accesses to code units.
 //! - `classes` has the classes of characters. `letters` consumes the code units of one class.
@@ -7,10 +7,9 @@
 //!
 //! Some words of the comments of this crate come from `ixdtf_grammar`:
 //!
-//! - A *reader* is a parsing method of the library, such as `IxdtfParser::parse`.
 //! - The *fault table* says which error a reader returns for a text. It consists of *lines*, and each line has one or more *rows*. Each
 //!   row has one error.
-//! - A `Reason` says which line fits a text that a reader refuses.
+//! - A `Reason` says why a reader refuses a text. Most reasons are named after a line of the fault table.
 //! - A *bad code unit* is a 16-bit code unit outside 1 to 126.
 //! - A *bracket* is a `[`, the `]` that closes it, and the code units between them. It has a time zone or an annotation.
 //!

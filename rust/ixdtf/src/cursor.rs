@@ -2,8 +2,8 @@
 
 //! A cursor: the remaining code units of a source.
 //!
-//! A cursor has no index. It keeps the remaining code units as one slice, so it cannot point past the end. When a
-//! function that reads a part of a text returns an error, its cursor is at the position of the error.
+//! A cursor has no index. It keeps the remaining code units as one slice, so it cannot point past the end. A
+//! function can read a part of a text and return an error. The cursor of the function is then at the position of the error.
 //!
 //! A parser, such as `IxdtfParser`, keeps a cursor in a field. A reader of the parser works on a second cursor, which begins
 //! at the same position. If the reader fails, the cursor of the parser is unchanged.
@@ -91,7 +91,7 @@ impl<'a, T: EncodingType> Cursor<'a, T> {
 
     /// Does the last step of a function that worked on a second cursor. `here` is the second cursor.
     ///
-    /// If `read` is `Ok`, `self` continues where `here` is. If `read` is a `Reason`, `self` keeps its remaining input,
+    /// If `read` is `Ok`, `self` moves to the position of `here`. If `read` is a `Reason`, `self` keeps its remaining input,
     /// and `settle` returns the error of the `Reason`. The position of this error is the number of code units from `self`
     /// to `here`. `brackets` says whether the reader reads brackets.
     #[inline(always)]
@@ -130,7 +130,7 @@ impl<'a, T: EncodingType> Cursor<'a, T> {
     /// Returns the code unit at an index of the remaining input, as a byte.
     ///
     /// Returns `None` if the input is too short, and `stop` for a bad code unit. In the library, only this function calls
-    /// `get_ascii`.
+    /// `EncodingType::get_ascii`, the method that reads one code unit of a source.
     #[inline(always)]
     pub fn look_at(&mut self, index: usize, stop: Reason) -> Result<Option<u8>, Reason> {
         match T::get_ascii(self.rest, index) {
@@ -164,7 +164,7 @@ impl<'a, T: EncodingType> Cursor<'a, T> {
         }
     }
 
-    /// Consumes one digit, and returns it as an ASCII byte. Returns `stop` if there is no digit, and then consumes nothing.
+    /// Consumes one digit, and returns it as an ASCII byte. If there is no digit, returns `stop` and consumes nothing.
     #[inline(always)]
     pub fn next_digit(&mut self, stop: Reason) -> Result<u8, Reason> {
         let byte = self.byte_at(0);
@@ -254,7 +254,7 @@ impl<'a, T: EncodingType> Cursor<'a, T> {
         are_equal::<T>(left, right)
     }
 
-    /// Tests whether a key is `u-ca`, the key of calendars. In the library, only this function calls `check_calendar_key`.
+    /// Returns whether a key is `u-ca`, the key of calendars.
     #[inline(always)]
     pub fn is_calendar_key(&mut self, key: &[T::CodeUnit]) -> bool {
         T::check_calendar_key(key)
@@ -275,8 +275,8 @@ fn are_equal<T: EncodingType>(left: &[T::CodeUnit], right: &[T::CodeUnit]) -> bo
     left == right
 }
 
-/// Makes the error of a `Reason` with position `at`. The cursor `here` is at the position. `brackets` says whether the reader reads
-/// brackets.
+/// Makes the error of the reason `stop`. The cursor `here` is where the error is. A `LocatedError` has the position `at`. A
+/// `ParseError` has no position, so `at` is not used. `brackets` says whether the reader reads brackets.
 #[inline(always)]
 pub fn error_at<'a, T: EncodingType, E: FromStop>(
     here: &mut Cursor<'a, T>,

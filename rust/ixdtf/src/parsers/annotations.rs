@@ -3,7 +3,8 @@
 //! Functions that read annotations: a key and a value in brackets.
 //!
 //! Most of these functions begin at the code unit before the part that they read, for example at the `[` before a key. The function
-//! or its caller tests the first code unit of the part. If this code unit fits, one step consumes both code units.
+//! or its caller tests the first code unit of the part. If the test succeeds, the function consumes two code units in one step: the
+//! one before the part, and the first one of the part.
 
 use crate::classes::{
     is_a_key_char, is_a_key_leading_char, is_annotation_close, is_annotation_key_value_separator,
@@ -28,7 +29,8 @@ impl Letters for KeyLetters {
     }
 }
 
-/// Consumes the code unit before a key, and the key. Returns the code units of the key. A `=` follows, which is not consumed.
+/// Consumes the code unit before a key, and the key. Returns the code units of the key. Returns `InKey` if no `=` follows the key. The
+/// `=` is not consumed.
 ///
 /// The caller has tested the first code unit of the key.
 #[inline(always)]
@@ -50,7 +52,7 @@ pub fn ends_key(next: Option<u8>) -> bool {
     matches!(next, Some(byte) if is_annotation_key_value_separator(byte))
 }
 
-/// The class of the code units that a component of a value can contain.
+/// The class of the code units that a component of a value can contain. The components of a value are its parts between hyphens.
 pub struct ComponentLetters;
 
 impl Letters for ComponentLetters {
