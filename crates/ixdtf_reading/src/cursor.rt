@@ -366,7 +366,7 @@ impl<'a, T: EncodingType> Cursor<'a, T> {
 
     /// Tests whether two slices have equal code units.
     ///
-    /// In this crate and in the layers above it, code units of texts are compared with each other only by this function.
+    /// In this crate and in the layers above it, only this function compares code units of texts with each other.
     #[inline(always)]
     pub fn has_same_units(&mut self, left: &[T::CodeUnit], right: &[T::CodeUnit]) -> bool
         ensures same { IsTrue result ↔ (map T.number left.now ≡ map T.number right.now) }

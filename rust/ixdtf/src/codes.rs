@@ -4,7 +4,8 @@
 //!
 //! Each reason belongs to a line of the fault table (docs/FAULTS.md), except `UnrecognizedCritical` and `CriticalDuplicateCalendar`.
 //! Each line is about one kind of *prefix*. A prefix is the part of a text just before the position of the error. Other code
-//! units can come before the prefix, so it does not always begin where the text begins. The error depends on the reason, on what follows the prefix, and on whether the reader reads brackets.
+//! units can come before the prefix, so it does not always begin where the text begins. The error depends on the reason, on
+//! what follows the prefix, and on whether the reader reads brackets.
 
 use crate::error_code::Code;
 use crate::error_code::Code::*;

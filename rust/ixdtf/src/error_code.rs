@@ -4,8 +4,8 @@
 
 use crate::ParseError;
 
-/// The code of an error that a reader can return. Most errors have one variant. `ParseError::AbruptEnd` has several variants: one for
-/// each value of its field `location`.
+/// The code of an error that a reader can return. For most errors, `Code` has one variant. For `ParseError::AbruptEnd`, `Code` has
+/// several variants: one for each value of the field `location`.
 #[derive(Clone, Copy)]
 pub enum Code {
     NonAsciiCodePoint,

@@ -28,7 +28,8 @@ pub struct StopAt {
 
 /// An error that can be made from a `StopAt`: `ParseError`, or `LocatedError` with the position and the reason.
 ///
-/// A function that can return either of the two is generic in the type of its error, with this trait as the bound.
+/// A function that can return a `ParseError` or a `LocatedError` is generic in the type of its error. This trait is the bound of that
+/// type.
 pub trait FromStop {
     /// Makes the error.
     fn of_stop(why: StopAt) -> Self;
