@@ -1,6 +1,6 @@
 -- The contracts of the private functions that read complete texts, each as one clause. No clause of a public reader refers to
 -- this module.
-use Rattle.std.specs.Prelude.{◌≡◌, ◌⊎◌, ℕ, Bool, true, false, ◌+◌, List, map, Option, option_map, Result, Ok, Err, OnOk, IfErr}
+use Rattle.std.specs.Prelude.{◌≡◌, ◌⊎◌, ℕ, Bool, true, false, ◌+◌, List, [], map, Option, option_map, Result, Ok, Err, OnOk, IfErr}
 use Rattle.ixdtf_grammar.specs.{language.{Letters.{Letter, Text}, Brackets.Pair, Cores.Core, Readers.{Reader, CoreKind, has_exact_zones}, Languages.{Parsed, parsed_with}}}
 use Rattle.ixdtf_grammar.specs.{table.{Faults.Fault, Outcomes.NoRowFits}, Handlers.{Step, replies_of, with_calendar, calendar_value, pair_of}}
 use Rattle.ixdtf_grammar.specs.{Laws.InNoOther, Places.{HandledToAt, UnhandledFaultAt, UnhandledOnlyPlace, UnhandledReason, UnhandledOnlyReason}}
@@ -8,8 +8,8 @@ use Rattle.ixdtf_grammar.specs.declared.{reason.Reason.{Reason}, records.{Annota
 use Rattle.ixdtf_grammar.specs.{Views.{Unread, UnreadUnder, unread_of, parsed_of, most_looks, LeavesBehind, returned_by}, Promises.most_looks_beside}
 use Rattle.ixdtf_reading.specs.{declared.stop.StopAt.StopAt, reading.{Chains.{Counting, TextReadTo, PairsRead, first_pairs}, Stops.fault_of_code}}
 use Rattle.ixdtf_reading.specs.reading.{Clauses.{UnhandledForm, HasNoBrackets, core_in}, Looks.{Placed, error_of}, Cores.core_at, ExactZones.bracket_by}
-use Rattle.ixdtf_reading.specs.reading.Brackets.{Bracket, zone_in, pairs_in}
-use Rattle.ixdtf_times.specs.{declared.offsets.AfterCore.{AfterCore}, TimeTypes.opens_bracket}
+use Rattle.ixdtf_reading.specs.reading.Brackets.{Bracket as FirstBracket, zone_in, pairs_in}
+use Rattle.ixdtf_times.specs.{declared.offsets.AfterCore.{AfterCore, TheVariants.{End, Bracket}}, TimeTypes.opens_bracket}
 
 -- The fault of a `StopAt`.
 abbrev pub fault_of_stop_at : StopAt → Fault
@@ -34,7 +34,7 @@ pub record ReadsInto {T U F : Type 0} (letter : ℕ → Letter) (number : U → 
 -- what follows the first `[`.
 abbrev pub FrontRead : {T U : Type 0} → (ℕ → Letter) → (U → ℕ) → CoreKind → Text → Bool → Option (Annotation T U) → IxdtfParseRecord T U → Text → Type 0
 FrontRead letter number kind text false first found rest = (core_at error_of kind text ≡ Ok ((core_in found, false), rest)) × HasNoBrackets found
-FrontRead letter number kind text true first found rest = (core : Core) × (inner : List ℕ) × (bracket : Bracket)
+FrontRead letter number kind text true first found rest = (core : Core) × (inner : List ℕ) × (bracket : FirstBracket)
     × (core_at error_of kind text ≡ Ok ((core, true), map letter inner))
     × (bracket_by error_of (has_exact_zones kind) (map letter inner) ≡ Ok (bracket, rest))
     × (first_pairs (option_map (pair_of number) first) ≡ pairs_in bracket)
@@ -44,6 +44,21 @@ FrontRead letter number kind text true first found rest = (core : Core) × (inne
 abbrev pub FrontRefused : CoreKind → Text → Placed → Type 0
 FrontRefused kind text fault = (core_at error_of kind text ≡ Err fault)
     ⊎ ((core : Core) × (inner : Text) × (core_at error_of kind text ≡ Ok ((core, true), inner)) × (bracket_by error_of (has_exact_zones kind) inner ≡ Err fault))
+
+-- What the function left behind. If the text ends after its core, nothing remains, and the cursor of the text was not stored.
+abbrev pub after_front : Result AfterCore Reason → Unread → Unread
+after_front (Ok End) new = record { rest = []; looks = new.looks }
+after_front (Ok Bracket) new = new
+after_front (Err stop) new = new
+
+-- The function read the first bracket of a text after its `[`. `core` is the core of the text.
+abbrev pub ReadsOpenBracket : {T U : Type 0} → (ℕ → Letter) → (U → ℕ) → Bool → Core → Unread → Result AfterCore Reason → Option (Annotation T U)
+    → IxdtfParseRecord T U → Unread → Type 0
+ReadsOpenBracket letter number exact core old (Ok after) first found new = (after ≡ Bracket) × ((bracket : FirstBracket)
+    × (bracket_by error_of exact (map letter old.rest) ≡ Ok (bracket, map letter new.rest))
+    × (first_pairs (option_map (pair_of number) first) ≡ pairs_in bracket)
+    × (parsed_of number found ≡ parsed_with core (zone_in bracket)))
+ReadsOpenBracket letter number exact core old (Err stop) first found new = bracket_by error_of exact (map letter old.rest) ≡ Err (stop, map letter new.rest)
 
 -- The function read the front of a text.
 abbrev pub ReadsFront : {T U : Type 0} → (ℕ → Letter) → (U → ℕ) → CoreKind → Unread → Result AfterCore Reason → Option (Annotation T U) → IxdtfParseRecord T U

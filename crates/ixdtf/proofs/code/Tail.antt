@@ -1,5 +1,5 @@
 -- What the code read as a core, and as the first bracket after it, gives what the text is.
-use Rattle.std.proofs.Common.{◌≡◌, ℕ, ◌≤◌, ◌+◌, suc, Bool, true, false, List, [], ◌∷◌, ◌++◌, length, map, Option, None, Result, Ok, Err, sym, ap, ◌∙◌, subst}
+use Rattle.std.proofs.Common.{◌≡◌, ℕ, ◌≤◌, ◌+◌, ◌*◌, suc, Bool, true, false, List, [], ◌∷◌, ◌++◌, length, map, Option, None, Result, Ok, Err, sym, ap, ◌∙◌, subst}
 use Rattle.std.proofs.{Common.arith, lemmas.List.{length-map, length-append}}
 use Rattle.ixdtf_grammar.specs.language.{Letters.{Letter, Text, Letter.Plain}, Cores.Core, Brackets.Pair, Languages.parsed_with, Readers.{CoreKind, has_exact_zones}}
 use Rattle.ixdtf_grammar.specs.{language.Readers.Reader.bracketed, Handlers.{Step, with_calendar}}
@@ -8,7 +8,10 @@ use Rattle.ixdtf_reading.specs.reading.Chains.{PairsRead, TextRead, TextReadAfte
 use Rattle.ixdtf_reading.proofs.{parts.Looks.OnRead, to_grammar.Cores.{Splits, CoreFront, ReadsCore, core_read}}
 use Rattle.ixdtf_reading.proofs.to_grammar.{ExactBracket.{BracketFront, FitsBracket, bracket_by_read}, Wholes.after_core_by}
 use Rattle.ixdtf_reading.proofs.to_reading.ExactBracket.{IsBracketBy, bracket_by_takes}
-use Rattle.ixdtf.specs.Readings.{core_looks}
+use Rattle.ixdtf.specs.Readings.{ReadsOpenBracket, after_front, core_looks}
+use Rattle.ixdtf_grammar.specs.{Views.Unread, declared.{reason.Reason.Reason, records.{Annotation.Annotation, IxdtfParseRecord.IxdtfParseRecord}}}
+use Rattle.ixdtf_reading.specs.reading.Clauses.{Spends, SpendsOr}
+use Rattle.ixdtf_times.specs.declared.offsets.AfterCore.{AfterCore, TheVariants.{End, Bracket as Opens}}
 use Rattle.ixdtf_brackets.specs.BracketTypes.{exact_looks}
 use Rattle.ixdtf.proofs.code.Chains.{text_result, text_fault, text_derived, text_read}
 
@@ -68,6 +71,21 @@ bracket_shortens exact letter units left bracket is =
     let h = bracket_is exact _ _ bracket is in
     let opens = bracket_by_takes error_of exact h.0 [] bracket h.2 in
     omega (arith, ap (λ t. length t) h.1, ap (λ t. length t) opens.1, length-append h.0 (map letter left), length-map units letter, length-map left letter)
+
+-- The accesses of a core and of the first bracket after it.
+pub opened_looks : {T U : Type 0} (letter : ℕ → Letter) (number : U → ℕ) (kind : CoreKind) (exact : Bool) → exact ≡ has_exact_zones kind
+    → (core : Core) (start middle here : Unread) (first : Option (Annotation T U)) (found : IxdtfParseRecord T U)
+    → Spends (core_looks (has_exact_zones kind) (length start.rest)) start middle → suc (length middle.rest) ≤ length start.rest
+    → (result : Result AfterCore Reason) → ReadsOpenBracket letter number exact core middle result first found here
+    → SpendsOr (2 * length middle.rest + 18) (exact_looks exact (length middle.rest) + 16) middle result here
+    → SpendsOr (3 * length start.rest + 54) (length start.rest + 54) start result (after_front result here)
+opened_looks letter number kind exact same core start middle here first found looks shorter (Ok End) read spent = absurd cc
+opened_looks letter number kind exact same core start middle here first found looks shorter (Ok Opens) read spent =
+    let within = looks_at_most exact (has_exact_zones kind) same (length start.rest) (length middle.rest) shorter in
+    (omega (arith, looks, spent, within), omega (arith, looks, spent))
+opened_looks letter number kind exact same core start middle here first found looks shorter (Err stop) read spent =
+    let most = core_at_most (has_exact_zones kind) (length start.rest) in
+    (omega (arith, looks, spent, shorter, most), omega (arith, looks, spent))
 
 -- ---- the complete text
 

@@ -9,7 +9,7 @@ ghost use Rattle.ixdtf_reading.specs.reading.Brackets.{zone_in, pairs_in};
 ghost use Rattle.ixdtf_reading.specs.reading.Chains.{TextRead, TextReadAfter, Counting, first_pairs};
 ghost use Rattle.ixdtf_reading.specs.reading.Clauses.{Spends, SpendsOr, HasNoBrackets, yielded_at, core_in};
 ghost use Rattle.ixdtf_brackets.specs.BracketTypes.{bracket_of, exact_looks};
-ghost use Rattle.ixdtf.specs.Readings.{ReadsInto, ReadsHandled, ReadsFront, PairsReadInto};
+ghost use Rattle.ixdtf.specs.Readings.{ReadsInto, ReadsHandled, ReadsFront, ReadsOpenBracket, after_front, PairsReadInto};
 ghost use Rattle.ixdtf_reading.specs.reading.Stops.{fault_of_code, fault_at};
 
 use crate::parsers::cores::CoreReader;
@@ -70,8 +70,8 @@ impl<'a, T: EncodingType> IxdtfParser<'a, T> {
     /// Reads all of the remaining input with a handler. After an error, the remaining input is unchanged.
     ///
     /// `read_as` and `read_lending_handler` call this function. It is compiled once for each handler. So that the compiled
-    /// code is small, it has only what depends on the handler, and calls functions that are compiled once for all
-    /// handlers: `parse_front` reads the core and the first bracket, and `refuse` makes the error.
+    /// code is small, it has little more than what depends on the handler. It calls the function `parse_front`, which reads the
+    /// core and the first bracket, and is compiled once for all handlers.
     #[inline(always)]
     pub(crate) fn read_handled<E: FromStop, C: CoreReader, F>(
         &mut self,
@@ -195,39 +195,71 @@ where
     ensures empty { OnOk result (text.new.here.rest ≡ []) }
     ensures counted { text.old.here.looks ≤ text.new.here.looks }
 {
-    if parse_front::<T, C>(text, profile)?.opens_bracket() {
-        return parse_later_brackets(text, handler);
+    match parse_front::<T, C>(text.here.fork(), profile, text)? {
+        AfterCore::End => {
+            text.here.advance_by(text.here.remaining());
+            Ok(())
+        }
+        AfterCore::Bracket => parse_later_brackets(text, handler),
     }
-    Ok(())
 }
 
 /// Reads the *front* of a text: a core of the kind that `C` reads under the profile, and the first bracket, if the text has
-/// brackets. Returns whether it has.
+/// brackets. `start` is the cursor at the beginning of the text. Returns what follows the core.
 ///
-/// The function is not inlined, so it is compiled once for all handlers.
+/// The function is not inlined, so it is compiled once for all handlers. `start` is passed by value, so that it stays in
+/// registers. After a bracket or an error, the function stores the cursor in the text. If the text ends after its core, nothing
+/// remains, and the function does not store the cursor.
 #[inline(never)]
 fn parse_front<'a, T: EncodingType, C: CoreReader>(
-    text: &mut OpenText<'a, T>,
+    start: Cursor<'a, T>,
     profile: Profile,
+    text: &mut OpenText<'a, T>,
 ) -> Result<AfterCore, Reason>
     requires empty { IsEmptyRecord text.old.found }
     requires no_pair { text.old.first ≡ None }
-    ensures front { ReadsFront T.letter T.number (C.kind profile) text.old.here result text.new.first text.new.found text.new.here }
-    ensures looks { SpendsOr (3 * length text.old.here.rest + 54) (length text.old.here.rest + 54) text.old.here result text.new.here }
+    ensures front { ReadsFront T.letter T.number (C.kind profile) start.entry result text.new.first text.new.found
+        (after_front result text.new.here) }
+    ensures looks { SpendsOr (3 * length start.entry.rest + 54) (length start.entry.rest + 54) start.entry result
+        (after_front result text.new.here) }
 {
-    let mut here = text.here.fork();
-    let read = C::parse_core(&mut here, profile, &mut text.found);
-    text.here = here;
-    let after = read?;
-    if after.opens_bracket() {
-        let mut here = text.here.fork();
-        let bracket = parse_bracket_by(&mut here, C::has_exact_zones());
-        text.here = here;
-        if let Some(annotation) = place_bracket(bracket?, &mut text.found) {
-            text.first = Some(annotation);
+    let mut here = start;
+    match C::parse_core(&mut here, profile, &mut text.found) {
+        Ok(AfterCore::End) => {
+            text.here.keep_looks(here);
+            Ok(AfterCore::End)
+        }
+        Ok(AfterCore::Bracket) => parse_open_bracket(here, C::has_exact_zones(), text),
+        Err(stop) => {
+            text.here = here;
+            Err(stop)
         }
     }
-    Ok(after)
+}
+
+/// Reads the first bracket of a text after its `[`. Returns `Bracket`. If `is_exact`, a zone in the bracket must have the form of
+/// RFC 9557, section 4.1.
+///
+/// The function has a cursor of its own. If `parse_front` used one cursor for the core and for the bracket, each text would take
+/// about 20 instructions more.
+#[inline(always)]
+fn parse_open_bracket<'a, T: EncodingType>(
+    start: Cursor<'a, T>,
+    is_exact: bool,
+    text: &mut OpenText<'a, T>,
+) -> Result<AfterCore, Reason>
+    requires unbracketed { HasNoBrackets text.old.found }
+    requires no_pair { text.old.first ≡ None }
+    ensures bracket { ReadsOpenBracket T.letter T.number is_exact (core_in text.old.found) start.entry result text.new.first text.new.found text.new.here }
+    ensures looks { SpendsOr (2 * length start.entry.rest + 18) (exact_looks is_exact (length start.entry.rest) + 16) start.entry result text.new.here }
+{
+    let mut here = start;
+    let bracket = parse_bracket_by(&mut here, is_exact);
+    text.here = here;
+    if let Some(annotation) = place_bracket(bracket?, &mut text.found) {
+        text.first = Some(annotation);
+    }
+    Ok(AfterCore::Bracket)
 }
 
 /// Reads the annotations after the front of a text, up to the end of the input, and writes the calendar into the record.
@@ -276,9 +308,9 @@ fn copied<'a, T: EncodingType>(pair: &Annotation<'a, T>) -> Annotation<'a, T>
 /// Returns the error of a `Reason`. The cursor of the text is at the position of the error, and `start` is the number of
 /// code units that remained before the text was read.
 ///
-/// The function is not inlined, so it is compiled once for all handlers. It returns the error as the result of a reader, so
-/// the error is written where the reader returns it, and is not copied.
-#[inline(never)]
+/// The function is inlined, although it is then compiled once for each handler: a call would take 10 instructions. The function
+/// returns the error as the result of a reader, so the error is written where the reader returns it, and is not copied.
+#[inline(always)]
 fn refuse<'a, T: EncodingType, E: FromStop>(
     text: &mut OpenText<'a, T>,
     start: usize,
