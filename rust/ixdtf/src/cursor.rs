@@ -2,8 +2,8 @@
 
 //! A cursor: the remaining code units of a source.
 //!
-//! A cursor has no index. It keeps the remaining code units as one slice, so it cannot point past the end. A
-//! function can read a part of a text and return an error. The cursor of the function is then at the position of the error.
+//! A cursor has no index. It keeps the remaining code units as one slice, so it cannot point past the end. If a function fails
+//! after it has read a part of a text, the cursor that it works on is at the position of the error.
 //!
 //! A parser, such as `IxdtfParser`, keeps a cursor in a field. A reader of the parser works on a second cursor, which begins
 //! at the same position. If the reader fails, the cursor of the parser is unchanged.
