@@ -1,7 +1,7 @@
 -- Proves which bytes the lines under a message have.
 use Rattle.std.proofs.Common.{◌≡◌, ℕ, suc, zero, ◌+◌, ◌-◌, ◌*◌, ◌<◌, ◌≤◌, ⊎_elim, Bool, false, true, if◌then◌else◌, List, [], ◌∷◌, ◌++◌, map, length, take, drop, get_or, replicate, sym, refl, ap, subst, ◌∙◌, arith, append_assoc, length-append, length-drop}
 use Rattle.std.proofs.Math.Seq.{take-append-add, drop-append_seam, take-append_seam}
-use Rattle.std.proofs.lemmas.{Bool.{cases_lt, lt-ltb, le-ltb}, List.{append-nil, length-take-le, take-append-drop, drop-drop, drop-take, take-take, take_all, get_or-take, get_or-drop}}
+use Rattle.std.proofs.lemmas.{Bool.{cases_lt, lt-ltb, le-ltb}, List.{append-nil, length-take-le, take-append-drop, take-append-le, drop-drop, drop-take, take-take, take_all, get_or-take, get_or-drop}}
 use Rattle.std.proofs.lemmas.Str.{encodes-IsAscii, encodes-append, chars-append, chars-IsAscii, encodes-chars, length-le-encodes, IsUtf8-append, IsUtf8-take, IsUtf8-drop, IsUtf8-from_ascii, IsUtf8-from_is_utf8, is_utf8-from_IsUtf8}
 use Rattle.std.proofs.lemmas.Str.{length-encode, len_utf8_bounds, IsCharBoundary-before_ascii, IsCharBoundary-after_ascii, IsCharBoundary-end, IsCharBoundary-start, IsAscii-take, IsAscii-drop}
 use Rattle.std.proofs.lemmas.Str.Ascii.{IsAscii-nil, IsAscii-cons}
@@ -215,6 +215,18 @@ module _ (bs : List ℕ) (at : ℕ) (w : Window) (m s n : ℕ) (marked : m ≤ l
         indent_whole = λ none. whole (omega (arith, none, start));
       })
 
+-- ---- the greatest byte
+
+none_there : (bs : List ℕ) (place : ℕ) → length bs ≤ place → get_or bs place 0 ≡ 0
+none_there [] place past = refl
+none_there (b ∷ bs) zero past = absurd (omega (arith, past))
+none_there (b ∷ bs) (suc place) past = none_there bs place (omega (arith, past))
+
+pub greatest_all : (bs : List ℕ) (index greatest : ℕ) → length bs ≤ index → ((place : ℕ) → place < index → get_or bs place 0 ≤ greatest)
+    → (place : ℕ) → get_or bs place 0 ≤ greatest
+greatest_all bs index greatest all holds place =
+    ⊎_elim (λ inside. holds place (omega (arith, inside, all))) (λ past. omega (arith, none_there bs place past)) (cases_lt place (length bs))
+
 -- If a window is the complete text and is ASCII, the text is UTF-8.
 pub whole_text : (bs : List ℕ) (s e : ℕ) → IsAscii (drop s (take e bs)) → s ≡ 0 → length bs ≤ e → IsUtf8 bs
 whole_text bs s e ascii first last =
@@ -343,6 +355,20 @@ lines_hidden bs at to bad = go (is_utf8 bs) refl
 -- No bytes were added.
 pub adds_none : (a : List ℕ) (i : ℕ) → Adds a a i i []
 adds_none a i = record { is = sym (append-nil (take i a)) }
+
+-- The bytes before the first added one are kept, also if more was added after the added ones.
+pub kept_before : (a b c : List ℕ) (i j k : ℕ) (xs ys : List ℕ) → i ≤ length a → j ≤ length b → j ≤ k → Adds a b i j xs → Adds b c j k ys → take i c ≡ take i a
+kept_before a b c i j k xs ys within inside more p q =
+    let long = length-take-le i a within in
+    let grows : i ≤ j = omega (arith, ap (λ t. length t) p.is, long, length-take-le j b inside, length-append (take i a) xs) in
+    let first = sym (take-take i j b grows) ∙ ap (take i) p.is ∙ take-append-le i (take i a) xs (omega (arith, long)) ∙ take_all i (take i a) (omega (arith, long)) in
+    let longer = length-take-le j b inside in
+    let second = sym (take-take j k c more) ∙ ap (take j) q.is ∙ take-append-le j (take j b) ys (omega (arith, longer)) ∙ take_all j (take j b) (omega (arith, longer)) in
+    sym (take-take i j c grows) ∙ ap (take i) second ∙ take-take i j b grows ∙ first
+
+-- What stands after the index is written over.
+pub adds_over : {a b c : List ℕ} {i k : ℕ} {ys : List ℕ} → take i b ≡ take i a → Adds b c i k ys → Adds a c i k ys
+adds_over {ys = ys} kept p = record { is = p.is ∙ ap (λ t. t ++ ys) kept }
 
 -- The first of many equal bytes.
 pub front_of_many : (m n c : ℕ) → m ≤ n → take m (replicate n c) ≡ replicate m c

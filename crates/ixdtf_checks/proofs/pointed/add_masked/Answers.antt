@@ -35,8 +35,8 @@ leads-preserved-then-begins_control c =
     let front = length-take-le place rest (omega (arith, inside)) in
     goes_on _ _ _ _ (place + 2) _ rest part (map mask (take place rest)) 46
     (masked_pair rest place inside (eqb-true (get_or rest place 0) 194 there) none more small)
-    (omega (arith, few, front, c.add_run-middle.ensures.place, c.add_byte-end.ensures.place, more)) whole
-    (adds_then (adds_then added c.add_run-middle.ensures.text) c.add_byte-end.ensures.text)
+    (omega (arith, few, front, c.add_byte-end.ensures.place, more)) whole
+    (adds_then (adds_then added (rw front at c.add_run.ensures.text)) c.add_byte-end.ensures.text)
 
 pub leads-preserved : goal.leads-preserved
 leads-preserved c =
@@ -47,12 +47,12 @@ leads-preserved c =
     let front = length-take-le place rest (omega (arith, inside)) in
     goes_on _ _ _ _ (place + 1) _ rest part (map mask (take place rest)) 194
     (masked_lead rest place inside (eqb-true (get_or rest place 0) 194 there) none (c.if-begins_control.ensures.off refl))
-    (omega (arith, few, front, c.add_run-middle.ensures.place, c.add_byte-end-else-begins_control.ensures.place, inside)) whole
-    (adds_then (adds_then added c.add_run-middle.ensures.text) c.add_byte-end-else-begins_control.ensures.text)
+    (omega (arith, few, front, c.add_byte-end-else-begins_control.ensures.place, inside)) whole
+    (adds_then (adds_then added (rw front at c.add_run.ensures.text)) c.add_byte-end-else-begins_control.ensures.text)
 
 pub returns-clause-text : goal.returns-clause-text
 returns-clause-text c =
     let (few, (part, whole, added)) = c.leads.invariant in
     let rest = c.leads.rest.now in
     let all = masked_all rest (position-None (is_byte 194) rest c.in_default.ensures.place) in
-    adds_same (ap (λ t. part ++ t) (sym all) ∙ whole) (adds_then added c.add_run.ensures.text)
+    adds_same (ap (λ t. part ++ t) (sym all) ∙ whole) (adds_then added c.add_run-2.ensures.text)
