@@ -248,7 +248,7 @@ fn add_run(room: &mut [u8; ROOM], at: usize, bytes: &[u8]) -> bool {
 /// Writes each byte of `bytes` as `shown` returns it. Returns the greatest byte, or 0 if there are no bytes.
 ///
 /// Both slices are cut to the same length, so that the compiled code can write many bytes at once. The loop also finds the greatest
-/// byte. In a loop of its own, this took 1 % of the time of a report.
+/// byte. In a loop of its own, this would make the processor mispredict about one branch more for each report.
 #[inline(always)]
 fn show(room: &mut [u8], bytes: &[u8]) -> u8 {
     let bytes = &bytes[..room.len()];
