@@ -54,7 +54,9 @@ pub fn parse_annotation_key<'a, T: EncodingType>(
     ensures shorter { OnOk result (length cursor.new.rest + 2 ≤ length cursor.old.rest) }
 {
     let start = cursor.rest_behind();
-    cursor.advance_by(2);
+    if !cursor.advance_two() {
+        return Err(Reason::InKey);
+    }
     let next = pass_letters::<T, KeyLetters>(cursor, Reason::InKey)?;
     if !ends_key(next) {
         return stopped(Reason::InKey);
@@ -97,7 +99,9 @@ fn start_component<'a, T: EncodingType>(
     ensures looks { cursor.new.looks ≡ cursor.old.looks + 1 }
 {
     if is_annotation_value_component(cursor.byte_at(1)) {
-        cursor.advance_by(2);
+        if !cursor.advance_two() {
+            return Err(stop);
+        }
         return Ok(());
     }
     cursor.advance();

@@ -8,7 +8,7 @@
 
 #![tactic(auto, unfolding(crate::specs::reading::Looks::look_readings))]
 
-ghost use Rattle.std.specs.Prelude.{◌≡◌, ℕ, ◌+◌, ◌-◌, ◌<◌, ◌≤◌, map, length, drop, Option, Result, Ok, Err, Some, None, IfOk, IfErr, IfSome, OnOk, OnErr, IsTrue, IsFalse, nat_eq, ◌*◌, ◌↔◌, min, codes};
+ghost use Rattle.std.specs.Prelude.{◌≡◌, ℕ, ◌+◌, ◌-◌, ◌<◌, ◌≤◌, map, length, drop, Option, Result, Ok, Err, Some, None, IfOk, IfErr, IfSome, OnOk, OnErr, IsTrue, IsFalse, nat_eq, ◌*◌, ◌↔◌, min, codes, true};
 ghost use Rattle.ixdtf_grammar.specs.language.Letters.{digit};
 ghost use Rattle.ixdtf_grammar.specs.language.Digits.{decimal};
 ghost use Rattle.ixdtf_grammar.specs.Views.{Unread, ascii_at};
@@ -243,6 +243,26 @@ impl<'a, T: EncodingType> Cursor<'a, T> {
         if let [_, rest @ ..] = self.rest {
             self.rest = rest;
         }
+    }
+
+    /// Consumes the first two code units. Returns `true`.
+    ///
+    /// The caller has looked at the second code unit, so there are two, as the proof shows. The compiler does not know the proof: it
+    /// compiles a test. If the test fails, the function returns `false`, and the caller returns an error. So there is no code for a
+    /// panic.
+    #[inline(always)]
+    pub fn advance_two(&mut self) -> bool
+        requires { 2 ≤ length self.old.rest }
+        ensures yes { result ≡ true }
+        ensures rest { self.new.rest ≡ drop 2 self.old.rest }
+        ensures shorter { length self.new.rest + 2 ≡ length self.old.rest }
+        ensures looks { self.new.looks ≡ self.old.looks }
+    {
+        if let [_, _, rest @ ..] = self.rest {
+            self.rest = rest;
+            return true;
+        }
+        false
     }
 
     /// Consumes one digit, and returns it as an ASCII byte. If there is no digit, returns `stop` and consumes nothing.

@@ -164,6 +164,20 @@ impl<'a, T: EncodingType> Cursor<'a, T> {
         }
     }
 
+    /// Consumes the first two code units. Returns `true`.
+    ///
+    /// The caller has looked at the second code unit, so there are two, as the proof shows. The compiler does not know the proof: it
+    /// compiles a test. If the test fails, the function returns `false`, and the caller returns an error. So there is no code for a
+    /// panic.
+    #[inline(always)]
+    pub fn advance_two(&mut self) -> bool {
+        if let [_, _, rest @ ..] = self.rest {
+            self.rest = rest;
+            return true;
+        }
+        false
+    }
+
     /// Consumes one digit, and returns it as an ASCII byte. If there is no digit, returns `stop` and consumes nothing.
     #[inline(always)]
     pub fn next_digit(&mut self, stop: Reason) -> Result<u8, Reason> {

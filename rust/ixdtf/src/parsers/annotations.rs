@@ -38,7 +38,9 @@ pub fn parse_annotation_key<'a, T: EncodingType>(
     cursor: &mut Cursor<'a, T>,
 ) -> Result<&'a [T::CodeUnit], Reason> {
     let start = cursor.rest_behind();
-    cursor.advance_by(2);
+    if !cursor.advance_two() {
+        return Err(Reason::InKey);
+    }
     let next = pass_letters::<T, KeyLetters>(cursor, Reason::InKey)?;
     if !ends_key(next) {
         return stopped(Reason::InKey);
@@ -70,7 +72,9 @@ fn start_component<'a, T: EncodingType>(
     stop: Reason,
 ) -> Result<(), Reason> {
     if is_annotation_value_component(cursor.byte_at(1)) {
-        cursor.advance_by(2);
+        if !cursor.advance_two() {
+            return Err(stop);
+        }
         return Ok(());
     }
     cursor.advance();
