@@ -14,7 +14,7 @@ ghost use Rattle.ixdtf_grammar.specs.language.Digits.{decimal};
 ghost use Rattle.ixdtf_grammar.specs.Views.{Unread, ascii_at};
 ghost use Rattle.ixdtf_reading.specs.reading.Clauses.{Reads, Settles, StandsAt, Spends, SpendsOr, Yields, YieldsAt, end_look, stopped_by};
 ghost use Rattle.ixdtf_reading.specs.reading.Stops.{IsNext, fault_at};
-ghost use Rattle.ixdtf_reading.specs.reading.FixedPlaces.{letter_place, byte_place, number_place};
+ghost use Rattle.ixdtf_reading.specs.reading.FixedPlaces.{letter_place, byte_place, number_place, number_up_to};
 ghost use Rattle.ixdtf_reading.specs.reading.Looks.{seen, next_by, peek_by, digit_look, two_digits_by, two_digits_of};
 
 use crate::classes::two_digit_number;
@@ -379,6 +379,24 @@ impl<'a, T: EncodingType> Cursor<'a, T> {
         let ones = self.byte_at(index + 1);
         let number = two_digit_number(tens, ones);
         if number > 99 {
+            return None;
+        }
+        Some(number)
+    }
+
+    /// Returns the number that the digit at `index` and the digit at the next index form. Returns `None` if one of these two code
+    /// units is not a digit, or if the number is greater than `most`.
+    #[inline(always)]
+    #[tactic(auto, unfolding(crate::specs::reading::FixedPlaces::number_up_to))]
+    pub fn fixed_number_up_to(&mut self, index: usize, most: u8) -> Option<u8>
+        requires early { index < 18 }
+        ensures there { result ≡ number_up_to most index (map T.letter self.old.rest) }
+        ensures rest { self.new.rest ≡ self.old.rest }
+        ensures few { self.new.looks ≤ self.old.looks + 2 }
+        ensures counted { self.old.looks ≤ self.new.looks }
+    {
+        let number = self.fixed_number(index)?;
+        if number > most {
             return None;
         }
         Some(number)

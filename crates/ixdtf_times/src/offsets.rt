@@ -84,11 +84,7 @@ fn fixed_hour<'a, T: EncodingType>(cursor: &mut Cursor<'a, T>) -> Option<u8>
     ensures few { cursor.new.looks ≤ cursor.old.looks + 2 }
     ensures counted { cursor.old.looks ≤ cursor.new.looks }
 {
-    let hour = cursor.fixed_number(0)?;
-    if hour > 23 {
-        return None;
-    }
-    Some(hour)
+    cursor.fixed_number_up_to(0, 23)
 }
 
 /// Returns the minute of an offset after a colon at index 2. Returns `None` if a column does not fit, or if the minute
@@ -102,11 +98,7 @@ fn fixed_minute<'a, T: EncodingType>(cursor: &mut Cursor<'a, T>) -> Option<u8>
     ensures counted { cursor.old.looks ≤ cursor.new.looks }
 {
     cursor.fixed_letter(2, b':')?;
-    let minute = cursor.fixed_number(3)?;
-    if minute > 59 {
-        return None;
-    }
-    Some(minute)
+    cursor.fixed_number_up_to(3, 59)
 }
 
 /// Consumes an offset `HH:MM` after its sign, if the text ends after it or continues with `[`.

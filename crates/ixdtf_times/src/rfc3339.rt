@@ -138,46 +138,29 @@ fn parse_day<'a, T: EncodingType>(
     Ok(day)
 }
 
-/// Reads a time offset after its first code unit `lead`, and writes it into the record.
+/// Reads the hour and the minute of an offset, and writes the offset into the record. The sign has been consumed: it is `sign`.
 #[inline(always)]
-fn parse_time_offset<'a, T: EncodingType>(
+fn parse_numeric_offset<'a, T: EncodingType>(
     cursor: &mut Cursor<'a, T>,
-    lead: u8,
+    sign: u8,
     found: &mut IxdtfParseRecord<'a, T>,
 ) -> Result<(), Reason>
     ensures offset { (date : DateRecord) (time : TimeRecord) → found.old.date ≡ Some date → found.old.time ≡ Some time →
         Reads T.letter (λ _. core_in found.new) cursor.old result cursor.new
-        (time_offset_at error_of open_end date time lead) }
+        (num_offset_at error_of open_end date time sign) }
     ensures kept { KeepsBrackets found.old found.new }
     ensures looks { Spends 8 cursor.old cursor.new }
 {
-    if is_utc_designator(lead) {
-        found.offset = Some(UtcOffsetRecordOrZ::Z);
-        return Ok(());
-    }
-    if let Some(minutes) = take_numeric_offset(cursor, lead) {
+    if let Some(minutes) = take_numeric_offset(cursor, sign) {
         found.offset = Some(UtcOffsetRecordOrZ::Offset(UtcOffsetRecord::MinutePrecision(minutes)));
         return Ok(());
     }
-    let minutes = parse_offset_by_numbers(cursor, lead)?;
+    let mut here = cursor.fork();
+    let read = parse_offset_by_numbers(&mut here, sign);
+    *cursor = here;
+    let minutes = read?;
     found.offset = Some(UtcOffsetRecordOrZ::Offset(UtcOffsetRecord::MinutePrecision(minutes)));
     Ok(())
-}
-
-/// Consumes the first code unit of a time offset, after the digits of a fraction, and returns it.
-#[inline(always)]
-fn take_lead<'a, T: EncodingType>(cursor: &mut Cursor<'a, T>) -> Result<u8, Reason>
-    ensures lead { Reads T.letter (λ byte. byte) cursor.old result cursor.new
-        (letter_at error_of (of_date_time after_secfrac)) }
-    ensures looks { Spends 1 cursor.old cursor.new }
-{
-    match cursor.look(Reason::AfterSecfrac)? {
-        Some(byte) if byte.is_ascii_digit() || is_ascii_sign(byte) || is_utc_designator(byte) => {
-            cursor.advance();
-            Ok(byte)
-        }
-        _ => Err(Reason::AfterSecfrac),
-    }
 }
 
 /// Reads the digits of a fraction after its `.`.
@@ -205,9 +188,21 @@ fn parse_fractional<'a, T: EncodingType>(
     ensures looks { Spends 11 cursor.old cursor.new }
 {
     let fraction = parse_secfrac(cursor)?;
-    let lead = take_lead(cursor)?;
     found.time = Some(whole.with_fraction(Some(fraction)));
-    parse_time_offset(cursor, lead, found)
+    match cursor.look(Reason::AfterSecfrac)? {
+        // `parse_secfrac` has consumed all digits, so `lead` is not a digit. The code tests for a digit because the definition
+        // `secfrac_at` also goes on after a digit. Without this test, the proof would have to show that no digit follows.
+        Some(lead) if is_ascii_sign(lead) || lead.is_ascii_digit() => {
+            cursor.advance();
+            parse_numeric_offset(cursor, lead, found)
+        }
+        Some(lead) if is_utc_designator(lead) => {
+            cursor.advance();
+            found.offset = Some(UtcOffsetRecordOrZ::Z);
+            Ok(())
+        }
+        _ => Err(Reason::AfterSecfrac),
+    }
 }
 
 /// Reads what follows the seconds: an optional fraction, and an offset. Writes the date, the time and the offset into the
@@ -230,10 +225,16 @@ fn parse_after_seconds<'a, T: EncodingType>(
             cursor.advance();
             parse_fractional(cursor, whole, found)
         }
-        Some(byte) if is_ascii_sign(byte) || is_utc_designator(byte) => {
+        Some(byte) if is_ascii_sign(byte) => {
             cursor.advance();
             found.time = Some(whole.with_fraction(None));
-            parse_time_offset(cursor, byte, found)
+            parse_numeric_offset(cursor, byte, found)
+        }
+        Some(byte) if is_utc_designator(byte) => {
+            cursor.advance();
+            found.time = Some(whole.with_fraction(None));
+            found.offset = Some(UtcOffsetRecordOrZ::Z);
+            Ok(())
         }
         _ => Err(Reason::AfterSecondField),
     }
@@ -260,7 +261,10 @@ fn take_fixed_rfc3339<'a, T: EncodingType>(
 // ==== Number by number ====
 
 /// Reads the hour and the minute of an offset after its sign, number by number, and returns the offset.
-#[inline(always)]
+///
+/// The function is not inlined, because it is called only for a text with an error.
+#[cold]
+#[inline(never)]
 fn parse_offset_by_numbers<'a, T: EncodingType>(
     cursor: &mut Cursor<'a, T>,
     sign: u8,
@@ -382,7 +386,12 @@ pub fn parse_internet_date_time<'a, T: EncodingType>(
     ensures looks { Spends 37 cursor.old cursor.new }
 {
     match take_fixed_rfc3339(cursor) {
-        Some((date, whole)) => parse_after_seconds(cursor, date, whole, found),
+        Some((date, whole)) => {
+            let mut here = cursor.fork();
+            let read = parse_after_seconds(&mut here, date, whole, found);
+            *cursor = here;
+            read
+        }
         None => {
             let mut here = cursor.fork();
             let stop = first_stop(&mut here);

@@ -12,7 +12,7 @@ ghost use Rattle.ixdtf_grammar.specs.table.LineNames.LineName.{of_clock};
 ghost use Rattle.ixdtf_grammar.specs.table.Lines.{seconds_after};
 ghost use Rattle.ixdtf_reading.specs.reading.Clauses.{Reads, Spends, SpendsOr, Checks, YieldsAt, clock_by, end_look, fraction_by, more_digits_at, number_at_most};
 ghost use Rattle.ixdtf_times.specs.TimeTypes.{clock_of, clock_line_of, shape_of, open_time_of, time_to_second};
-ghost use Rattle.ixdtf_reading.specs.reading.FixedPlaces.{time_place, time_in_range};
+ghost use Rattle.ixdtf_reading.specs.reading.FixedPlaces.{time_place};
 ghost use Rattle.ixdtf_reading.specs.reading.Looks.{error_of, peek_by, seen};
 ghost use Rattle.ixdtf_reading.specs.reading.Stops.{reason_of};
 ghost use Rattle.ixdtf_reading.specs.reading.Times.{time_of, second_start, clock_at, fraction_at, line_after, minute_at, minutes_shape, minute_past, number_at, second_at, second_past, after_second_at};
@@ -225,14 +225,6 @@ pub struct WholeTime {
 }
 
 impl WholeTime {
-    /// Returns whether the hour, the minute and the second are in their ranges.
-    #[inline(always)]
-    pub fn is_time(self) -> bool
-        ensures { result ≡ time_in_range (time_to_second self) }
-    {
-        self.hour <= 23 && self.minute <= 59 && self.second <= 60
-    }
-
     /// Returns the record of the time, with the fraction, if there is one.
     #[inline(always)]
     pub fn with_fraction(self, fraction: Option<Fraction>) -> TimeRecord
@@ -247,8 +239,10 @@ impl WholeTime {
     }
 }
 
-/// Returns the time in the eight columns after a date and a separator, or `None` if a column does not fit. The ranges
-/// of the numbers are not checked.
+/// Returns the time in the eight columns after a date and a separator. Returns `None` if a column does not fit, or if a number is
+/// out of its range.
+///
+/// Each number is compared with its limit where it is read, so that the compiled code makes one test for the digits and the range.
 #[inline(always)]
 #[tactic(auto, unfolding(ixdtf_reading::specs::reading::FixedPlaces::fixed_readings))]
 pub fn fixed_time<'a, T: EncodingType>(cursor: &mut Cursor<'a, T>) -> Option<WholeTime>
@@ -257,11 +251,11 @@ pub fn fixed_time<'a, T: EncodingType>(cursor: &mut Cursor<'a, T>) -> Option<Who
     ensures few { cursor.new.looks ≤ cursor.old.looks + 8 }
     ensures counted { cursor.old.looks ≤ cursor.new.looks }
 {
-    let hour = cursor.fixed_number(11)?;
+    let hour = cursor.fixed_number_up_to(11, 23)?;
     cursor.fixed_letter(13, b':')?;
-    let minute = cursor.fixed_number(14)?;
+    let minute = cursor.fixed_number_up_to(14, 59)?;
     cursor.fixed_letter(16, b':')?;
-    let second = cursor.fixed_number(17)?;
+    let second = cursor.fixed_number_up_to(17, 60)?;
     Some(WholeTime {
         hour,
         minute,

@@ -260,6 +260,17 @@ impl<'a, T: EncodingType> Cursor<'a, T> {
         Some(number)
     }
 
+    /// Returns the number that the digit at `index` and the digit at the next index form. Returns `None` if one of these two code
+    /// units is not a digit, or if the number is greater than `most`.
+    #[inline(always)]
+    pub fn fixed_number_up_to(&mut self, index: usize, most: u8) -> Option<u8> {
+        let number = self.fixed_number(index)?;
+        if number > most {
+            return None;
+        }
+        Some(number)
+    }
+
     /// Tests whether two slices have equal code units.
     ///
     /// In this crate and in the layers above it, only this function compares code units of texts with each other.

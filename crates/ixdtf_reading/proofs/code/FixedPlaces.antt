@@ -1,8 +1,8 @@
 -- A date and a time in fixed columns. What is found there is what the grammar derives, and what the reading functions return.
 use Rattle.ixdtf_grammar.specs.declared.reason.Reason.{Reason}
 use Rattle.std.proofs.Common.{subst, ◌≡◌, ℕ, zero, suc, ◌+◌, ◌-◌, ◌*◌, ◌<◌, ◌≤◌, Bool, true, false, IsTrue, List, [], ◌∷◌, ◌++◌, map, drop, length, Option}
-use Rattle.std.proofs.Common.{Some, None, Result, Ok, Err, refl, sym, ap, ◌∙◌, ◌&&◌, if◌then◌else◌, ℤ, pos, arith, append_assoc, inl, inr, nat_eq, eqb-true}
-use Rattle.std.proofs.lemmas.{Bool.{and_parts, and_from, le-leb, both_ways, Decides.nat_tests}, List.length-drop}
+use Rattle.std.proofs.Common.{Some, None, Result, Ok, Err, refl, sym, ap, ◌∙◌, ◌&&◌, if◌then◌else◌, ℤ, pos, arith, append_assoc, inl, inr, nat_eq, nat_le, eqb-true}
+use Rattle.std.proofs.lemmas.{Bool.{and_parts, and_from, le-leb, leb-true, both_ways, Decides.nat_tests}, List.length-drop}
 use Rattle.ixdtf_grammar.specs.declared.records.{DateRecord.DateRecord, TimeRecord.TimeRecord}
 use Rattle.ixdtf_grammar.specs.language.Letters.{Letter, Letter.Plain, Text, Class, digit, hyphen, colon, date_time_separator}
 use Rattle.ixdtf_grammar.specs.language.{Digits.{decimal, TwoDigits}, Shapes.digits, Dates.{FourDigitYear, IsDayOfMonth, month_length}}
@@ -12,7 +12,7 @@ use Rattle.ixdtf_grammar.proofs.parts.Texts.{colon_seconds_text}
 use Rattle.ixdtf_reading.specs.{reading.{Clauses.{Reads, YieldsAt}, Dates.{date_of, day_in_range, day_at, days_at, date_at}}}
 use Rattle.ixdtf_reading.specs.reading.{Times.time_of, Looks.{Read, Placed, error_of}, FixedPlaces.{ranged, ◌>>?◌, first_in, letter_place, first_byte}}
 use Rattle.ixdtf_reading.specs.reading.FixedPlaces.{byte_place, byte_of_look, number_place, year_place, days_place, basic_days_place, date_place, time_place}
-use Rattle.ixdtf_reading.specs.reading.FixedPlaces.{date_in_range, time_in_range, date_time_place}
+use Rattle.ixdtf_reading.specs.reading.FixedPlaces.{date_in_range, date_time_place, number_up_to}
 use Rattle.ixdtf_reading.proofs.parts.{Looks.onto, Marks.hyphens_of, Years.year_takes}
 use Rattle.ixdtf_reading.proofs.to_reading.Dates.{month_is, month_is_none, month_or_none, month_takes, month_out, over_day}
 
@@ -80,6 +80,16 @@ number_at_place place text n e =
     then_some (letter_place digit place text) _ n e λ a ea next.
     then_some (letter_place digit (place + 1) text) _ n next λ b eb last.
     number_of_letters place text n a b ea eb cc
+
+-- A number that is at most `most`, and the text after it.
+pub number_in_range : (most place : ℕ) (text : Text) (n : ℕ) → number_up_to most place text ≡ Some n → Number place text n × (n ≤ most)
+unfolding number_up_to
+number_in_range most place text n e =
+    then_some (number_place place text) _ n e λ m em next.
+    let held = then_held (nat_le m most) m n next in (
+      number_at_place place text n (em ∙ ap Some held.1),
+      subst (λ k. k ≤ most) held.1 (leb-true m most held.0),
+    )
 
 -- The code unit `mark` at index `place`.
 pub mark_at_place : (mark place : ℕ) (text : Text) (c : ℕ) → letter_place (λ c. nat_eq c mark) place text ≡ Some c
@@ -171,9 +181,6 @@ date_ranges : (date : DateRecord) → IsTrue (date_in_range date)
     → (1 ≤ date.month) × (date.month ≤ 12) × (1 ≤ date.day) × (date.day ≤ month_length date.year date.month)
 date_ranges date h = grind (arith, nat_tests)
 
-time_ranges : (time : TimeRecord) → IsTrue (time_in_range time) → (time.hour ≤ 23) × (time.minute ≤ 59) × (time.second ≤ 60)
-time_ranges time h = grind (arith, nat_tests)
-
 fixed_date : (text : Text) (date : DateRecord) (year : ℕ) → year_place text ≡ Some year → Days true (drop 4 text) (drop 7 text) (drop 10 text) year date
     → IsTrue (date_in_range date) → (dates : Text) × (text ≡ dates ++ drop 10 text) × FixedDate dates date
 fixed_date text date year f d in_range =
@@ -204,32 +211,32 @@ date_at_place text date e in_range =
 -- ---- times
 
 fixed_time : (text : Text) (time : TimeRecord) (hour minute second : ℕ)
-    → (h : Number 11 text hour) → drop 13 text ≡ Plain 58 ∷ drop 14 text → (m : Number 14 text minute) → drop 16 text ≡ Plain 58 ∷ drop 17 text
-    → (s : Number 17 text second) → Some (time_of hour minute second None) ≡ Some time → IsTrue (time_in_range time)
+    → Number 11 text hour × (hour ≤ 23) → drop 13 text ≡ Plain 58 ∷ drop 14 text → Number 14 text minute × (minute ≤ 59)
+    → drop 16 text ≡ Plain 58 ∷ drop 17 text → Number 17 text second × (second ≤ 60) → Some (time_of hour minute second None) ≡ Some time
     → (times : Text) × (drop 11 text ≡ times ++ drop 19 text) × FixedTime times time
-fixed_time text time hour minute second h first m last s e in_range =
+fixed_time text time hour minute second h first m last s e =
     let is : time_of hour minute second None ≡ time = cc in
-    let r = time_ranges time in_range in
-    let hours = two_digits h (ap (λ x. x.hour) is) in
-    let minutes = two_digits m (ap (λ x. x.minute) is) in
-    let seconds = two_digits s (ap (λ x. x.second) is) in (
-      two h ++ (Plain 58 ∷ (two m ++ (Plain 58 ∷ two s))),
-      over_two h (first ∙ onto 58 (over_two m (last ∙ onto 58 (over_two s refl)))),
-      colon_seconds_text (two h) (two m) (two s) refl refl (hours.0, hours.1, r.0) (minutes.0, minutes.1, r.1) (seconds.0, seconds.1, r.2)
+    let hours = two_digits h.0 (ap (λ x. x.hour) is) in
+    let minutes = two_digits m.0 (ap (λ x. x.minute) is) in
+    let seconds = two_digits s.0 (ap (λ x. x.second) is) in (
+      two h.0 ++ (Plain 58 ∷ (two m.0 ++ (Plain 58 ∷ two s.0))),
+      over_two h.0 (first ∙ onto 58 (over_two m.0 (last ∙ onto 58 (over_two s.0 refl)))),
+      colon_seconds_text (two h.0) (two m.0) (two s.0) refl refl (hours.0, hours.1, subst (λ x. x.hour ≤ 23) is h.1)
+          (minutes.0, minutes.1, subst (λ x. x.minute ≤ 59) is m.1) (seconds.0, seconds.1, subst (λ x. x.second ≤ 60) is s.1)
           (sym (ap (λ x. x.fraction) is)),
     )
 
-time_at_place : (text : Text) (time : TimeRecord) → time_place text ≡ Some time → IsTrue (time_in_range time)
+time_at_place : (text : Text) (time : TimeRecord) → time_place text ≡ Some time
     → (times : Text) × (drop 11 text ≡ times ++ drop 19 text) × FixedTime times time
 unfolding time_place
-time_at_place text time e in_range =
-    then_some (number_place 11 text) _ time e λ hour f0 e0.
+time_at_place text time e =
+    then_some (number_up_to 23 11 text) _ time e λ hour f0 e0.
     then_some (letter_place colon 13 text) _ time e0 λ first f1 e1.
-    then_some (number_place 14 text) _ time e1 λ minute f2 e2.
+    then_some (number_up_to 59 14 text) _ time e1 λ minute f2 e2.
     then_some (letter_place colon 16 text) _ time e2 λ last f3 e3.
-    then_some (number_place 17 text) _ time e3 λ second f4 e4.
-    fixed_time text time hour minute second (number_at_place 11 text hour f0) (mark_at_place 58 13 text first f1)
-    (number_at_place 14 text minute f2) (mark_at_place 58 16 text last f3) (number_at_place 17 text second f4) e4 in_range
+    then_some (number_up_to 60 17 text) _ time e3 λ second f4 e4.
+    fixed_time text time hour minute second (number_in_range 23 11 text hour f0) (mark_at_place 58 13 text first f1)
+    (number_in_range 59 14 text minute f2) (mark_at_place 58 16 text last f3) (number_in_range 60 17 text second f4) e4
 
 -- ---- a date and a time
 
@@ -253,10 +260,9 @@ date_time_at_place text found e =
     then_some (date_place text) _ found e λ date f0 e0.
     then_some (letter_place date_time_separator 10 text) _ found e0 λ c f1 e1.
     then_some (time_place text) _ found e1 λ time f2 e2.
-    let held = then_held (date_in_range date && time_in_range time) (date, time) found e2 in
-    let ranges = and_parts _ _ held.0 in
+    let held = then_held (date_in_range date) (date, time) found e2 in
     rw (← held.1)
-    (of_parts text date c time (date_at_place text date f0 ranges.0) (letter_at_place date_time_separator 10 text c f1) (time_at_place text time f2 ranges.1))
+    (of_parts text date c time (date_at_place text date f0 held.0) (letter_at_place date_time_separator 10 text c f1) (time_at_place text time f2))
 
 -- ---- nothing is missed
 
@@ -292,12 +298,12 @@ module _ {years months days hours minutes seconds : Text} (y : digits 4 years) (
       ++ (Plain separator ∷ (two_letters hours h ++ (Plain 58 ∷ (two_letters minutes n ++ (Plain 58 ∷ (two_letters seconds x ++ rest))))))))))
 
   -- The digits of a date and of a time, and the marks between them, are found in their columns.
-  there : IsTrue (date_time_separator separator) → IsTrue (date_in_range date_there) → IsTrue (time_in_range time_there)
-      → date_time_place text_there ≡ Some (date_there, time_there)
-  unfolding date_time_place date_place year_place days_place time_place number_place
-  there separates in_date in_time =
+  there : IsTrue (date_time_separator separator) → IsTrue (date_in_range date_there) → IsTrue (nat_le time_there.hour 23)
+      → IsTrue (nat_le time_there.minute 59) → IsTrue (nat_le time_there.second 60) → date_time_place text_there ≡ Some (date_there, time_there)
+  unfolding date_time_place date_place year_place days_place time_place number_up_to number_place
+  there separates in_date hour minute second =
       let year = year_is y.0 y.4.0 y.4.4.0 y.4.4.4.0 in
-      rw (y.3, y.4.3, y.4.4.3, y.4.4.4.3, m.3, m.4.3, d.3, d.4.3, separates, h.3, h.4.3, n.3, n.4.3, x.3, x.4.3, year, in_date, in_time) refl
+      rw (y.3, y.4.3, y.4.4.3, y.4.4.4.3, m.3, m.4.3, d.3, d.4.3, separates, h.3, h.4.3, n.3, n.4.3, x.3, x.4.3, year, in_date, hour, minute, second) refl
 
 same_date : (date : DateRecord) (year : ℤ) (month day : ℕ) → year ≡ date.year → month ≡ date.month → day ≡ date.day → date_of year month day ≡ date
 same_date date year month day y m d = λ i. record { year = y i; month = m i; day = d i }
@@ -325,10 +331,11 @@ date_time_stands text date time rest f =
     let is_date = same_date date _ _ _ (year_of _ _ f.is_date.year) (two_digits_value _ _ f.is_date.month.0) (two_digits_value _ _ f.is_date.day) in
     let is_time = same_time time _ _ _ (two_digits_value _ _ (h, t.hour.1)) (two_digits_value _ _ (n, t.minute.1)) (two_digits_value _ _ (x, t.second.1)) (sym t.no_fraction) in
     let in_date = subst (λ r. IsTrue (date_in_range r)) (sym is_date) (is_in_range date (f.is_date.month.1, f.is_date.month.2) f.is_date.in_month) in
-    let in_time = subst (λ r. IsTrue (time_in_range r)) (sym is_time) (
-    and_from _ _ (and_from _ _ (le-leb _ 23 t.hour.2) (le-leb _ 59 t.minute.2)) (le-leb _ 60 t.second.2)) in
+    let hour = subst (λ r. IsTrue (nat_le r.hour 23)) (sym is_time) (le-leb _ 23 t.hour.2) in
+    let minute = subst (λ r. IsTrue (nat_le r.minute 59)) (sym is_time) (le-leb _ 59 t.minute.2) in
+    let second = subst (λ r. IsTrue (nat_le r.second 60)) (sym is_time) (le-leb _ 60 t.second.2) in
     ap date_time_place whole
-    ∙ there y m d f.separator h n x rest f.separates in_date in_time
+    ∙ there y m d f.separator h n x rest f.separates in_date hour minute second
     ∙ (λ i. Some (is_date i, is_time i))
 
 -- ---- what is found is what the reading functions return
@@ -385,12 +392,12 @@ long_enough text found e =
     then_some (date_place text) _ found e λ date f0 e0.
     then_some (letter_place date_time_separator 10 text) _ found e0 λ c f1 e1.
     then_some (time_place text) _ found e1 λ time f2 e2.
-    then_some (number_place 11 text) _ time f2 λ hour f3 e3.
+    then_some (number_up_to 23 11 text) _ time f2 λ hour f3 e3.
     then_some (letter_place colon 13 text) _ time e3 λ first f4 e4.
-    then_some (number_place 14 text) _ time e4 λ minute f5 e5.
+    then_some (number_up_to 59 14 text) _ time e4 λ minute f5 e5.
     then_some (letter_place colon 16 text) _ time e5 λ last f6 e6.
-    then_some (number_place 17 text) _ time e6 λ second f7 e7.
-    let number = number_at_place 17 text second f7 in
+    then_some (number_up_to 60 17 text) _ time e6 λ second f7 e7.
+    let number = (number_in_range 60 17 text second f7).0 in
     let size : length (drop 17 text) ≡ suc (suc (length (drop 19 text))) = ap (λ t. length t) number.is in
     let left : length (drop 17 text) ≡ length text - 17 = length-drop 17 text in
     omega (arith)

@@ -51,6 +51,10 @@ unfoldable pub number_place : ℕ → Text → Option ℕ
 number_place place text =
     letter_place digit place text >>? λ tens. letter_place digit (place + 1) text >>? λ ones. Some (decimal (Plain tens ∷ Plain ones ∷ []))
 
+-- The number of the two digits at index `place` and at the next index, if it is at most `most`.
+unfoldable pub number_up_to : ℕ → ℕ → Text → Option ℕ
+number_up_to most place text = number_place place text >>? λ number. if nat_le number most then Some number else None
+
 -- The year in the first four columns.
 unfoldable pub year_place : Text → Option ℕ
 year_place text = number_place 0 text >>? λ century. number_place 2 text >>? λ year. Some (100 * century + year)
@@ -72,11 +76,11 @@ date_place text = year_place text >>? λ year. letter_place hyphen 4 text >>? λ
 unfoldable pub basic_date_place : Text → Option DateRecord
 basic_date_place text = year_place text >>? λ year. basic_days_place year text
 
--- The time in the eight columns after a date and a separator. The ranges of its numbers are not tested.
+-- The time in the eight columns after a date and a separator, if its numbers are in their ranges.
 unfoldable pub time_place : Text → Option TimeRecord
 time_place text =
-    number_place 11 text >>? λ hour. letter_place colon 13 text >>? λ _. number_place 14 text >>? λ minute.
-    letter_place colon 16 text >>? λ _. number_place 17 text >>? λ second. Some (time_of hour minute second None)
+    number_up_to 23 11 text >>? λ hour. letter_place colon 13 text >>? λ _. number_up_to 59 14 text >>? λ minute.
+    letter_place colon 16 text >>? λ _. number_up_to 60 17 text >>? λ second. Some (time_of hour minute second None)
 
 -- The date and the text after it, if its month and its day are in their ranges. `after_month` is the text after the month.
 abbrev pub ranged : DateRecord → Text → Text → Read Placed DateRecord
@@ -88,24 +92,19 @@ abbrev pub date_in_range : DateRecord → Bool
 date_in_range date =
     nat_le 1 date.month && nat_le date.month 12 && nat_le 1 date.day && nat_le date.day (month_length date.year date.month)
 
--- Whether the hour, the minute and the second are in their ranges.
-abbrev pub time_in_range : TimeRecord → Bool
-time_in_range time = nat_le time.hour 23 && nat_le time.minute 59 && nat_le time.second 60
-
 -- The date and the time in the first nineteen columns, if their numbers are in their ranges.
 unfoldable pub date_time_place : Text → Option (DateRecord × TimeRecord)
 date_time_place text =
     date_place text >>? λ date. letter_place date_time_separator 10 text >>? λ _. time_place text >>? λ time.
-    if date_in_range date && time_in_range time then Some (date, time) else None
+    if date_in_range date then Some (date, time) else None
 
 -- The hour of an offset in the first two columns after its sign, if it is in its range.
 -- `minute_place` is for the minute after a colon.
 unfoldable pub hour_place : Text → Option ℕ
-hour_place text = number_place 0 text >>? λ hour. if nat_le hour 23 then Some hour else None
+hour_place text = number_up_to 23 0 text
 
 unfoldable pub minute_place : Text → Option ℕ
-minute_place text =
-    letter_place colon 2 text >>? λ _. number_place 3 text >>? λ minute. if nat_le minute 59 then Some minute else None
+minute_place text = letter_place colon 2 text >>? λ _. number_up_to 59 3 text
 
 -- The first day of a month of the year. The month has its digits at index `place` and at the next index. Its range is not tested.
 unfoldable pub month_of_year_place : ℕ → ℕ → Text → Option DateRecord
@@ -128,6 +127,6 @@ unmarked_at first profile text = do
 
 -- To unfold this unfolds the reading functions of parts in fixed columns.
 unfoldable pub fixed_readings : ℕ
-unfolding number_place year_place days_place basic_days_place date_place basic_date_place time_place date_time_place
+unfolding number_place number_up_to year_place days_place basic_days_place date_place basic_date_place time_place date_time_place
     hour_place minute_place month_of_year_place
 fixed_readings = 0

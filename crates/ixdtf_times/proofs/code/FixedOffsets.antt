@@ -10,7 +10,7 @@ use Rattle.ixdtf_reading.specs.reading.{Times.{time_of, line_after, clock_at}, Z
 use Rattle.ixdtf_grammar.specs.language.Digits.{decimal}
 use Rattle.ixdtf_reading.{specs.reading.DateTimes.{num_offset_at, open_end, numeric_core}, proofs.to_reading.DateTimes.{over_offset_hour, over_offset_minute}}
 use Rattle.ixdtf_reading.specs.reading.Cores.{with_offset, offset_core_at, core_end_at}
-use Rattle.ixdtf_reading.proofs.{parts.Looks.onto, code.FixedPlaces.{then_some, then_held, Number, number_at_place, mark_at_place, two, two_digits, over_two}}
+use Rattle.ixdtf_reading.proofs.{parts.Looks.onto, code.FixedPlaces.{then_some, Number, number_in_range, mark_at_place, two, two_digits, over_two}}
 use Rattle.ixdtf_reading.proofs.to_reading.{Times.{Closed, time_takes}, ClockRows.clock_starts}
 
 -- If there are only five code units, nothing is left after them.
@@ -46,13 +46,10 @@ offset_letters : (text : Text) (hour minute : ℕ) → hour_place text ≡ Some 
     → OffsetLetters text (time_of hour minute 0 None)
 unfolding hour_place minute_place
 offset_letters text hour minute hours minutes =
-    then_some (number_place 0 text) _ hour hours λ h f0 e0.
-    then_some (letter_place colon 2 text) _ minute minutes λ mark f1 e1.
-    then_some (number_place 3 text) _ minute e1 λ m f2 e2.
-    let most = then_held (nat_le h 23) h hour e0 in
-    let least = then_held (nat_le m 59) m minute e2 in
-    of_numbers text hour minute (number_at_place 0 text hour (f0 ∙ ap Some most.1)) (mark_at_place 58 2 text mark f1)
-    (number_at_place 3 text minute (f2 ∙ ap Some least.1)) (grind (arith, nat_tests, most.0, most.1)) (grind (arith, nat_tests, least.0, least.1))
+    then_some (letter_place colon 2 text) _ minute minutes λ mark f e.
+    let h = number_in_range 23 0 text hour hours in
+    let m = number_in_range 59 3 text minute e in
+    of_numbers text hour minute h.0 (mark_at_place 58 2 text mark f) m.0 h.1 m.1
 
 module _ (c : ℕ) (text : Text) (hour minute : ℕ) (hours : hour_place text ≡ Some hour) (minutes : minute_place text ≡ Some minute) where
   abbrev there : OffsetLetters text (time_of hour minute 0 None)

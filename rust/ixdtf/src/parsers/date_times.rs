@@ -36,7 +36,7 @@ fn fixed_date_time<'a, T: EncodingType>(
     let date = fixed_date(cursor)?;
     fixed_separator(cursor, 10)?;
     let time = fixed_time(cursor)?;
-    if !time.is_time() || !is_date(date) {
+    if !is_date(date) {
         return None;
     }
     Some((date, time))

@@ -192,12 +192,6 @@ pub struct WholeTime {
 }
 
 impl WholeTime {
-    /// Returns whether the hour, the minute and the second are in their ranges.
-    #[inline(always)]
-    pub fn is_time(self) -> bool {
-        self.hour <= 23 && self.minute <= 59 && self.second <= 60
-    }
-
     /// Returns the record of the time, with the fraction, if there is one.
     #[inline(always)]
     pub fn with_fraction(self, fraction: Option<Fraction>) -> TimeRecord {
@@ -210,15 +204,17 @@ impl WholeTime {
     }
 }
 
-/// Returns the time in the eight columns after a date and a separator, or `None` if a column does not fit. The ranges
-/// of the numbers are not checked.
+/// Returns the time in the eight columns after a date and a separator. Returns `None` if a column does not fit, or if a number is
+/// out of its range.
+///
+/// Each number is compared with its limit where it is read, so that the compiled code makes one test for the digits and the range.
 #[inline(always)]
 pub fn fixed_time<'a, T: EncodingType>(cursor: &mut Cursor<'a, T>) -> Option<WholeTime> {
-    let hour = cursor.fixed_number(11)?;
+    let hour = cursor.fixed_number_up_to(11, 23)?;
     cursor.fixed_letter(13, b':')?;
-    let minute = cursor.fixed_number(14)?;
+    let minute = cursor.fixed_number_up_to(14, 59)?;
     cursor.fixed_letter(16, b':')?;
-    let second = cursor.fixed_number(17)?;
+    let second = cursor.fixed_number_up_to(17, 60)?;
     Some(WholeTime {
         hour,
         minute,

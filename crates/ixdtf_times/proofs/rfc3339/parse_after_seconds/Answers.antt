@@ -6,5 +6,5 @@ use Rattle.ixdtf_reading.specs.reading.DateTimes.{date_time_line_readings}
 pub returns-in-Some-2-clause-rest : goal.returns-in-Some-2-clause-rest
 unfolding date_time_line_readings
 returns-in-Some-2-clause-rest g c =
-    let rest = c.parse_time_offset.ensures.offset c.args.date c.with_fraction.result refl refl in
+    let rest = c.parse_numeric_offset.ensures.offset c.args.date c.with_fraction.result refl refl in
     search (rules, rest)
