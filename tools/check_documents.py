@@ -347,6 +347,8 @@ PATH = re.compile(r'[\w.{][\w./*-]*(?:\{[^}]*\}[\w./*-]*)?')
 TOP = ('crates/', 'docs/', 'tools/', 'rust/', 'c/', '.ci/', 'src/', 'specs/', 'proofs/', 'must-fail/', 'tests/')
 ITEM = re.compile(r"&?(?:mut )?[A-Za-z_]\w*(?:(?:::|\.)[A-Za-z_]\w*)*(?: \w+){0,2}(?:<[\w<>:', &]*>)?(?:\([\w&:', ]*\))?(?:::\w+)*!?")
 OF_ITEM = re.compile(r'((?:`[a-z_]\w*`(?:, and |, | and )?)+) of (?:the )?`([A-Za-z_]\w*)`')
+# the sentence before a block that is a file of an example
+SHOWN_FILE = re.compile(r'The file `([^`]+)` has these lines:')
 OF_FILE = re.compile(r'((?:`[^`]+`(?:, and |, | and )?)+) of `([\w/]+\.(?:antt|rt))`')
 
 
@@ -354,9 +356,10 @@ def findings_in_names(document: Document) -> Iterator[Finding]:
     """The names in a document that do not exist."""
     tree = document.tree
     rows = dict(document.tables())
+    shown = {file for _, line in document.lines for file in SHOWN_FILE.findall(line)}
     for number, line in document.lines:
         of_standards = set(SPAN.findall(rows.get(number, {}).get(OF_STANDARDS, '')))
-        for span in (it for it in SPAN.findall(line) if it not in of_standards):
+        for span in (it for it in SPAN.findall(line) if it not in of_standards | shown):
             what = missing_in_span(tree, span)
             if what:
                 yield Finding(document.path, number, what)

@@ -37,12 +37,12 @@ def parts(program):
 
 def plain(text):
     """The text, with each character escaped that has a meaning for `man`."""
-    return text.replace('\\', '\\e').replace('-', '\\-').replace('`', '\\(ga').replace('^', '\\(ha')
+    return text.replace('\\', '\\e').replace('-', '\\-').replace('`', '\\(ga').replace('^', '\\(ha').replace("'", '\\(aq')
 
 
 def guarded(line):
     """The line, protected so that `man` does not read it as a command."""
-    return '\\&' + line if line.startswith(('.', "'")) else line
+    return '\\&' + line if line.startswith('.') else line
 
 
 def inline(text):

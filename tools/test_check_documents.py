@@ -109,6 +109,9 @@ class Names(InATree):
     def test_blocks_of_code_are_passed_over(self):
         self.assertEqual(self.names('```rust\nlet a = `no_such_item`;\n```\n'), [])
 
+    def test_files_of_examples(self):
+        self.assertEqual(self.names('`some.txt`\n\nThe file `some.txt` has these lines:\n\n```text\na\n```\n\n`some.txt`, `other.txt`'), ['no file `other.txt`'])
+
     def test_columns(self):
         self.assertEqual(self.names('| Production | From |\n|---|---|\n| YearPart | `date-fullyear`, `OfAStandard` |\n\n`YearPart`'), [])
 

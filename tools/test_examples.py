@@ -2,6 +2,7 @@
 """Tests of the examples in the documents. They run the examples of README.md, of docs/PROGRAM.md and of the READMEs of the two programs, and
 compare the output with the output that the documents show. cargo and a C compiler build the examples. The tests also read the texts of
 docs/GRAMMAR.md: `ixdtf_check` reads the texts of other programs, and `ixdtf_lines` the texts with instants."""
+import functools
 import json
 import os
 import re
@@ -14,14 +15,9 @@ from typing import Optional
 
 sys.path.insert(0, os.path.dirname(os.path.abspath(__file__)))
 import places
-from check_documents import Document, Tree
+from check_documents import SHOWN_FILE, Document, Tree
 
 ROOT = os.path.dirname(os.path.dirname(os.path.abspath(__file__)))
-
-# the file of the example of `ixdtf_check`: the document names it, but does not show it
-MONTHS = '2020-11\n2020\n2021-12\n2021-13\n'
-# the file of the example of `--ordered`
-LOG = '2024-03-02T09:30:00Z\n2024-03-02T10:00+01:00\n2024-03-02T09:00:00.5Z[Europe/Paris]\n2024-03-02\n'
 
 # the word of `ixdtf_lines` for each method of the library
 WORDS = {
@@ -68,6 +64,28 @@ def blocks(path: str, language: str = 'text') -> list[str]:
     return re.findall(rf'^```{language}\n(.*?)^```$', read(path), re.M | re.S)
 
 
+def commands(path: str) -> list[tuple[str, str]]:
+    """The commands that a document shows after a `$`, and for each what it prints."""
+    found = [it.removeprefix('$ ').partition('\n') for it in blocks(path) if it.startswith('$ ')]
+    return [(command, wanted) for command, _, wanted in found]
+
+
+def make_files(path: str, folder: str) -> None:
+    """Makes the files that a document shows, in a folder. The sentence before the lines of a file has its name."""
+    for name, lines in re.findall(SHOWN_FILE.pattern + r'\n\n```text\n(.*?)^```$', read(path), re.M | re.S):
+        with open(os.path.join(folder, name), 'w', encoding='utf-8') as file:
+            file.write(lines)
+
+
+def printed_by(command: str, folder: str) -> str:
+    """Runs a command of a document in a folder. Returns all that it prints. The command finds the two programs."""
+    path = [os.path.dirname(program(name)) for name in ('ixdtf_check', 'ixdtf_lines')]
+    environment = os.environ | {'PATH': os.pathsep.join([*path, os.environ['PATH']])}
+    ran = subprocess.run(['bash', '-c', f'{{ {command}\n}} 2>&1'], capture_output=True, text=True, env=environment, cwd=folder)
+    return ran.stdout
+
+
+@functools.cache
 def program(name: str) -> str:
     """Builds a program with cargo. Returns its path."""
     folder = os.path.join(ROOT, 'rust', name)
@@ -82,15 +100,17 @@ def printed(name: str, arguments: list[str], given: str, folder: str) -> str:
 
 
 class Examples(unittest.TestCase):
-    def test_front_pages_of_the_programs(self):
-        """Each command on the front page of a program prints what the page shows."""
-        for name in ('ixdtf_check', 'ixdtf_lines'):
-            shown = [it.removeprefix('$ ').split('\n', 1) for it in blocks(f'rust/{name}/README.md') if it.startswith('$ ')]
-            self.assertEqual(len(shown), 3, name)
-            path = os.pathsep.join([os.path.dirname(program(name)), os.environ['PATH']])
-            for command, wanted in shown:
-                ran = subprocess.run(['sh', '-c', command + ' 2>&1'], capture_output=True, text=True, env=os.environ | {'PATH': path})
-                self.assertEqual(ran.stdout, wanted, command)
+    def test_commands(self):
+        """Each command of PROGRAM, and each on the front page of a program, prints what the page shows after it. The page shows the files that
+        its commands read."""
+        for path, least in (('docs/PROGRAM.md', 15), ('rust/ixdtf_check/README.md', 3), ('rust/ixdtf_lines/README.md', 3)):
+            shown = commands(path)
+            self.assertGreaterEqual(len(shown), least, path)
+            with tempfile.TemporaryDirectory() as folder:
+                make_files(path, folder)
+                for command, wanted in shown:
+                    if '| jq ' not in command or shutil.which('jq'):
+                        self.assertEqual(printed_by(command, folder), wanted, command)
 
     def test_answers(self):
         """Each line of the block has the answer that the document shows after it."""
@@ -99,33 +119,12 @@ class Examples(unittest.TestCase):
         self.assertGreater(len(rows), 5)
         self.assertEqual(printed('ixdtf_lines', [], ''.join(it + '\n' for it in given), ROOT).splitlines(), list(answers))
 
-    def test_reports(self):
-        """The command on a file of months prints what the document shows."""
-        command, wanted = next(it for it in blocks('docs/PROGRAM.md') if it.startswith('$ ')).split('\n', 1)
-        name, *arguments = command.removeprefix('$ ').split()
-        with tempfile.TemporaryDirectory() as folder:
-            with open(os.path.join(folder, arguments[-1]), 'w', encoding='utf-8') as file:
-                file.write(MONTHS)
-            self.assertEqual(printed(name, arguments, '', folder), wanted)
-
-    def test_order(self):
-        """The command on a file whose lines go back prints what the document shows."""
-        command, wanted = next(it for it in blocks('docs/PROGRAM.md') if it.startswith('$ ixdtf_check --ordered')).split('\n', 1)
-        name, *arguments = command.removeprefix('$ ').split()
-        with tempfile.TemporaryDirectory() as folder:
-            with open(os.path.join(folder, arguments[-1]), 'w', encoding='utf-8') as file:
-                file.write(LOG)
-            self.assertEqual(printed(name, arguments, '', folder), wanted)
-
     def test_objects(self):
-        """The command for reports in JSON prints what the document shows. The objects have the lines, the columns and the messages of the text."""
-        command, wanted = next(it for it in blocks('docs/PROGRAM.md') if it.startswith('$ ixdtf_check') and '--format json' in it).split('\n', 1)
-        name, *arguments = command.removeprefix('$ ').split()
+        """The objects of the first command for reports in JSON have the lines, the columns and the messages of the report as a text."""
+        command, wanted = next(it for it in commands('docs/PROGRAM.md') if '--format json' in it[0])
         with tempfile.TemporaryDirectory() as folder:
-            with open(os.path.join(folder, arguments[-1]), 'w', encoding='utf-8') as file:
-                file.write(MONTHS)
-            self.assertEqual(printed(name, arguments, '', folder), wanted)
-            text = printed(name, [it for it in arguments if it not in ('--format', 'json')], '', folder)
+            make_files('docs/PROGRAM.md', folder)
+            text = printed_by(command.replace('--format json', '--format text'), folder)
         objects = [json.loads(it) for it in wanted.splitlines()[:-1]]
         self.assertEqual([f'{it["file"]}:{it["line"]}:{it["column"]}: {it["text"]}' for it in objects], re.findall(r'^months.txt:.*$', text, re.M))
 
@@ -154,16 +153,6 @@ class Examples(unittest.TestCase):
                 message = 'a space stands before the offset' if is_spaced else row['reason']
                 self.assertEqual((it['column'], it['end']), (int(row['begin']) + 1, int(row['end']) + 1), row)
                 self.assertEqual((it['reason'], it['text']), (reason, message), row)
-
-    def test_records(self):
-        """The command on a table with quotes prints what the document shows."""
-        table = next(it for it in blocks('docs/PROGRAM.md') if it.startswith('name,day'))
-        command, wanted = next(it for it in blocks('docs/PROGRAM.md') if it.startswith('$ ixdtf_check --csv')).split('\n', 1)
-        name, *arguments = command.removeprefix('$ ').split()
-        with tempfile.TemporaryDirectory() as folder:
-            with open(os.path.join(folder, arguments[-1]), 'w', encoding='utf-8') as file:
-                file.write(table)
-            self.assertEqual(printed(name, arguments, '', folder), wanted)
 
     @unittest.skipUnless(shutil.which('jq'), 'jq is not installed')
     def test_lines_of_json(self):

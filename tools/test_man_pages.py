@@ -37,6 +37,11 @@ class Pages(unittest.TestCase):
         for path in MAINS:
             self.assertEqual(options_of_usage(path), wanted, path)
 
+    def test_examples(self):
+        """Each page has a section with examples. test_examples.py runs their commands."""
+        for program in man_pages.NAMES:
+            self.assertIn('.SH EXAMPLES\n', man_pages.page(program))
+
     def test_short_help(self):
         """The usage has at most 50 lines."""
         for path in MAINS:
@@ -49,6 +54,7 @@ class Pages(unittest.TestCase):
         self.assertEqual(man_pages.inline('a * b'), 'a * b')
         self.assertEqual(man_pages.block(['.x\\n']), ['.PP', '.nf', '.RS 4', '\\&.x\\en', '.RE', '.fi'])
         self.assertEqual(man_pages.plain('found `-` ^'), 'found \\(ga\\-\\(ga \\(ha')
+        self.assertEqual(man_pages.block(["'#'"]), ['.PP', '.nf', '.RS 4', '\\(aq#\\(aq', '.RE', '.fi'])
         self.assertEqual(man_pages.rows(['| A | B | C |', '|---|---|---|', '| `a` | b | c |']), ['.TP', '\\fBa\\fR', 'B: b', '.br', 'C: c'])
 
     @unittest.skipUnless(shutil.which('groff'), 'groff is not installed')

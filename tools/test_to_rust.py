@@ -24,7 +24,7 @@ PAIRS = [('crates/ixdtf/src', 'rust/ixdtf/src'), ('crates/ixdtf_tests/src', 'rus
          ('crates/ixdtf_c/src', 'rust/ixdtf_c/src')]
 # the layers of the library, whose modules are at the root of the crate that is made, or in `parsers`
 LAYERS = ['instants', 'grammar', 'reading', 'times', 'brackets', 'durations']
-AT_THE_ROOT = {'civil', 'days', 'display', 'instant', 'encoding', 'error', 'hint', 'instants', 'located', 'message', 'packed', 'part', 'pointed',
+AT_THE_ROOT = {'civil', 'days', 'display', 'instant', 'encoding', 'error', 'hexadecimal', 'hint', 'instants', 'located', 'message', 'packed', 'part', 'pointed',
                'reason', 'records', 'wording', 'classes', 'codes', 'cursor', 'error_code', 'stop'}
 PAIRS += [(f'crates/ixdtf_{layer}/src', 'rust/ixdtf/src') for layer in LAYERS]
 

@@ -21,14 +21,15 @@ use watched::Watched;
 
 const USAGE: &str = "\
 usage: ixdtf_check [OPTION..] [FILE..]\n\
-Reports the lines of the files, or of standard input, that are no valid dates and times.\n\
+Reports the lines of the files, or of standard input, that are no valid dates, times or\n\
+durations.\n\
 \n\
 What is read:\n\
 \x20 --kind KIND      the kind of the texts: date-time (the default), year-month, month-day,\n\
 \x20                  time, offset, zone, zone-name or iana, duration, rfc3339, rfc9557\n\
-\x20 --strict         stricter rules: a month-day does not have the day 00,\n\
-\x20                  and a duration does not repeat a unit\n\
-\x20 --ordered        also the order: no instant may be before that of the line before\n\
+\x20 --strict         the strict profile: a month-day does not have the day 00,\n\
+\x20                  a duration does not repeat a unit, and 1200 is a time\n\
+\x20 --ordered        also the order: no instant may be earlier than that of the line before\n\
 \x20 ixdtf_check --kind rfc3339 times.txt\n\
 \x20 ixdtf_check --kind=duration --strict durations.txt\n\
 \n\
@@ -41,8 +42,8 @@ Which lines are read:\n\
 Which part of a line is read:\n\
 \x20 --field N        field N of each line, counted from 1, and not the complete line\n\
 \x20 --field NAME     the field that has this name in the first line; needs --header\n\
-\x20 --fields A-B     fields A to B, between which a line has one space\n\
-\x20 --csv            with --field: the lines are records of RFC 4180, with fields in quotes\n\
+\x20 --fields A-B     fields A to B as one text; in each line, a space separates two fields\n\
+\x20 --csv            with --field: lines are records of RFC 4180; fields may be in quotes\n\
 \x20 --separator C    the byte between two fields; without this option, it is a tab,\n\
 \x20                  or a comma with --csv, or a space with --fields\n\
 \x20 ixdtf_check --field 3 --separator , table.csv\n\
@@ -56,7 +57,7 @@ What is written:\n\
 \x20 --max-reports N  at most N reports, and the number of the others\n\
 \x20 --format FORMAT  the form of the reports: text (the default), or json\n\
 \x20 --color WHEN     colours in the reports: auto (the default), always or never\n\
-\x20 --quiet          nothing about lines that are refused\n\
+\x20 --quiet          no reports about refused lines; the counts are still written\n\
 \x20 ixdtf_check --canonical --quiet dates.txt\n\
 \n\
 Other:\n\
@@ -66,7 +67,7 @@ Other:\n\
 \x20 The file - is standard input.\n\
 \n\
 Exit status: 0 if every line was accepted, 1 if a line was refused, and 2 if an\n\
-argument is wrong, or if a file, standard output or a report failed.";
+argument is wrong, a file could not be checked, or something could not be written.";
 
 /// The number of bytes of the longest line that is checked.
 const LONGEST_LINE: usize = 65536;
@@ -236,17 +237,37 @@ fn check_reader<R: Read>(
     name: &str,
     outcome: &mut Outcome,
 ) {
-    let Some(mut request) = options.request(name) else {
+    let Some(request) = options.request(name) else {
         return;
     };
-    let Some(field_name) = options.field_name() else {
-        return check_request(rt, reader, request, outcome);
+    match options.field_name() {
+        None => check_request(rt, reader, request, outcome),
+        Some(field_name) => check_named(rt, reader, options, field_name, request, outcome),
+    }
+}
+
+/// Checks the bytes that `reader` returns. The first line of these bytes says which field has the name that `--field` asks for.
+fn check_named<R: Read>(
+    rt: &HostRuntime,
+    reader: &mut R,
+    options: &Options,
+    field_name: FieldName,
+    mut request: Request<'_>,
+    outcome: &mut Outcome,
+) {
+    let name = request.name;
+    let Some(word) = argument(rt, field_name.word) else {
+        return complain(rt, name, "the name of --field cannot be read", outcome);
     };
+    let wanted = field_name.in_word(word.as_str());
     let mut front = Front::new(reader);
     match front.first_line() {
         Err(error) => complain(rt, name, error, outcome),
-        Ok(line) => match column_of(rt, options, field_name, line) {
-            Err(error) => complain(rt, name, error.message(), outcome),
+        Ok(line) => match column_of(options, wanted, line) {
+            Err(error) => {
+                let why = format_args!("--field {wanted}: {}", error.message());
+                complain(rt, name, why, outcome);
+            }
             Ok(before) => {
                 request.field = Some(options.field_after(before));
                 check_request(rt, &mut front, request, outcome);
@@ -255,27 +276,24 @@ fn check_reader<R: Read>(
     }
 }
 
-/// Returns the number of fields before the field that has the name in the first line of a file.
-fn column_of(
-    rt: &HostRuntime,
-    options: &Options,
-    field_name: FieldName,
-    first: &[u8],
-) -> Result<usize, ColumnError> {
-    let Ok(words) = env::args(rt) else {
-        return Err(ColumnError::Missing);
-    };
-    let field = options.field_after(0);
-    for (number, word) in words.skip(1).enumerate() {
-        if number == field_name.word {
-            let name = field_name.in_word(word.as_str());
-            if field.extent == Extent::Csv {
-                return column_in_record(field.separator, name, first, &mut [0; LONGEST_LINE]);
-            }
-            return column_named(field.separator, name, first);
-        }
+/// Returns the argument after the first `before` arguments, or `None` if there is none. The name of the program does not count as
+/// an argument.
+fn argument(rt: &HostRuntime, before: usize) -> Option<String> {
+    match env::args(rt) {
+        Ok(words) => words.skip(1).nth(before),
+        Err(_) => None,
     }
-    Err(ColumnError::Missing)
+}
+
+/// Returns the number of fields before the field that has the name in the first line of a file.
+fn column_of(options: &Options, wanted: &str, first: &[u8]) -> Result<usize, ColumnError> {
+    let field = options.field_after(0);
+    let wanted = wanted.as_bytes();
+    if field.extent == Extent::Csv {
+        column_in_record(field.separator, wanted, first, &mut [0; LONGEST_LINE])
+    } else {
+        column_named(field.separator, wanted, first)
+    }
 }
 
 /// Checks the bytes of the reader as the request says, and adds the result to `outcome`.

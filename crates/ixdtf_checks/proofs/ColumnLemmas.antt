@@ -2,7 +2,7 @@
 use Rattle.std.proofs.Common.{◌≡◌, ◌≢◌, ◌⊎◌, inl, inr, ℕ, zero, suc, ◌+◌, ◌-◌, ◌<◌, Bool, true, false, if◌then◌else◌, List, take, drop, Option, Some, None, option_map, position, refl, sym, ap, ◌∙◌, subst, arith}
 use Rattle.std.proofs.lemmas.{Bool.cases_order, List.drop-drop, Option.{none-some, same_Some}}
 use Rattle.ixdtf_buffers.specs.Lines.{is_byte}
-use Rattle.ixdtf_checks.specs.{Columns.{IsNamed, IsColumn, HasNoColumn}, Parts.{field_start, front_field}, declared.column.ColumnError.TheVariants.{Missing, Twice}}
+use Rattle.ixdtf_checks.specs.{Columns.{IsNamed, IsColumn, IsMissing, HasNoColumn}, Parts.{field_start, front_field}, declared.column.ColumnError.TheVariants.{Twice}}
 
 -- Of the first `count` fields, this is the only one that has the name. If it is `None`, none of them has the name.
 abbrev pub Seen : ℕ → List ℕ → List ℕ → ℕ → Option ℕ → Type 0
@@ -152,5 +152,5 @@ is_column separator before start name line column is none (less, named, only) =
     record { named = named; only = λ other other_named. only other (named_before separator before start name line other is none other_named) other_named }
 
 pub is_missing : (separator before start : ℕ) (name line : List ℕ) → field_start separator before line ≡ Some start
-    → position (is_byte separator) (drop start line) ≡ None → Seen separator name line (suc before) None → HasNoColumn Missing separator name line
+    → position (is_byte separator) (drop start line) ≡ None → Seen separator name line (suc before) None → IsMissing separator name line
 is_missing separator before start name line is none seen = λ other named. seen other (named_before separator before start name line other is none named) named

@@ -1,6 +1,7 @@
 -- Defines which field has a name in the first line of a file.
-use Rattle.std.specs.Prelude.{◌≡◌, ℕ, ◌<◌, List, drop, Option, Some, option_map}
-use Rattle.ixdtf_checks.specs.{Parts.{field_start, front_field}, declared.column.ColumnError.{ColumnError, TheVariants.{Missing, Twice, NoRecord}}}
+use Rattle.std.specs.Prelude.{◌≡◌, ℕ, ◌<◌, List, drop, position, Option, Some, None, option_map}
+use Rattle.ixdtf_buffers.specs.Lines.{is_byte}
+use Rattle.ixdtf_checks.specs.{Parts.{field_start, front_field}, declared.column.ColumnError.{ColumnError, TheVariants.{Missing, NoSeparator, Twice, NoRecord}}}
 
 -- This is the field after `before` other fields.
 abbrev pub field_in : ℕ → ℕ → List ℕ → Option (List ℕ)
@@ -15,9 +16,14 @@ pub record IsColumn (separator : ℕ) (name line : List ℕ) (before : ℕ) : Ty
   pub named : IsNamed separator name line before
   pub only : (other : ℕ) → IsNamed separator name line other → other ≡ before
 
--- No field has the name, or at least two fields have it.
+-- No field has the name.
+abbrev pub IsMissing : ℕ → List ℕ → List ℕ → Type 0
+IsMissing separator name line = (before : ℕ) → ¬ (IsNamed separator name line before)
+
+-- No field has the name, or at least two fields have it. The error `NoSeparator` also says that no separator is in the line.
 abbrev pub HasNoColumn : ColumnError → ℕ → List ℕ → List ℕ → Type 0
-HasNoColumn Missing separator name line = (before : ℕ) → ¬ (IsNamed separator name line before)
+HasNoColumn Missing separator name line = IsMissing separator name line
+HasNoColumn NoSeparator separator name line = IsMissing separator name line × (position (is_byte separator) line ≡ None)
 HasNoColumn Twice separator name line =
     (before : ℕ) × (other : ℕ) × (before < other) × IsNamed separator name line before × IsNamed separator name line other
 HasNoColumn NoRecord separator name line = ⊥

@@ -185,10 +185,9 @@ pub struct FieldName {
 }
 
 impl FieldName {
-    /// Returns the bytes of the name. `word` is the word that contains it.
-    pub fn in_word(self, word: &str) -> &[u8] {
-        let bytes = word.as_bytes();
-        &bytes[self.start.min(bytes.len())..]
+    /// Returns the name. `word` is the word that contains it.
+    pub fn in_word(self, word: &str) -> &str {
+        word.get(self.start..).unwrap_or("")
     }
 }
 

@@ -10,8 +10,10 @@ use ixdtf_buffers::place::place_of;
 /// The reason why `column_named` or `column_in_record` returns an error.
 #[derive(Clone, Copy, Debug, PartialEq)]
 pub enum ColumnError {
-    /// No field has the name, or the line is too long.
+    /// The line is too long. Or no field has the name, and the line is empty or has a separator.
     Missing,
+    /// No field has the name. The line is not empty and has no separator, so the complete line is one field.
+    NoSeparator,
     /// Two or more fields have the name.
     Twice,
     /// The line is no record of RFC 4180.
@@ -23,10 +25,13 @@ impl ColumnError {
     pub fn message(self) -> &'static str {
         match self {
             ColumnError::Missing => {
-                "expected the name of --field in the first line, but no field there has it"
+                "expected a field with this name in the first line, but no field there has it"
+            }
+            ColumnError::NoSeparator => {
+                "expected a field with this name in the first line, but that line has only one field; --separator C says which byte separates fields"
             }
             ColumnError::Twice => {
-                "expected the name of --field once in the first line, but two fields there have it"
+                "expected one field with this name in the first line, but two fields there have it"
             }
             ColumnError::NoRecord => {
                 "expected names in the first line, but a quote there is not closed, or is at a wrong place"
@@ -39,7 +44,8 @@ impl ColumnError {
 ///
 /// # Errors
 ///
-/// - `ColumnError::Missing`: no field of the line has the name.
+/// - `ColumnError::Missing`: no field of the line has the name, and the line is empty or has a separator.
+/// - `ColumnError::NoSeparator`: no field of the line has the name, and the line is not empty and has no separator.
 /// - `ColumnError::Twice`: two or more fields of the line have the name.
 pub fn column_named(separator: u8, name: &[u8], first: &[u8]) -> Result<usize, ColumnError> {
     let line = line_in(true, first);
@@ -63,7 +69,7 @@ pub fn column_named(separator: u8, name: &[u8], first: &[u8]) -> Result<usize, C
         before,
         is_named(front_field(separator, &line[start..]), name),
     ) {
-        Ok(None) => Err(ColumnError::Missing),
+        Ok(None) => Err(missing_in(separator, line)),
         Ok(Some(column)) => Ok(column),
         Err(error) => Err(error),
     }
@@ -74,7 +80,9 @@ pub fn column_named(separator: u8, name: &[u8], first: &[u8]) -> Result<usize, C
 ///
 /// # Errors
 ///
-/// - `ColumnError::Missing`: no field of the line has the name, or the line is too long.
+/// - `ColumnError::Missing`: the line is too long. This is also the error if no field of the line has the name, and the line is
+///   empty or has a separator.
+/// - `ColumnError::NoSeparator`: no field of the line has the name, and the line is not empty and has no separator.
 /// - `ColumnError::Twice`: two or more fields of the line have the name.
 /// - `ColumnError::NoRecord`: the line is no record.
 pub fn column_in_record(
@@ -105,7 +113,16 @@ pub fn column_in_record(
     }
     match found {
         Some(column) => Ok(column),
-        None => Err(ColumnError::Missing),
+        None => Err(missing_in(separator, line)),
+    }
+}
+
+/// Returns the error about a line in which no field has the name. A line that is not empty and has no separator has an error of its
+/// own, because the user has probably forgotten `--separator`.
+fn missing_in(separator: u8, line: &[u8]) -> ColumnError {
+    match place_of(separator, line) {
+        None if !line.is_empty() => ColumnError::NoSeparator,
+        Some(_) | None => ColumnError::Missing,
     }
 }
 

@@ -47,14 +47,15 @@ use verdict::LINE_LIMIT;
 
 const USAGE: &str = "\
 usage: ixdtf_check [OPTION..] [FILE..]
-Reports the lines of the files, or of standard input, that are no valid dates and times.
+Reports the lines of the files, or of standard input, that are no valid dates, times or
+durations.
 
 What is read:
   --kind KIND      the kind of the texts: date-time (the default), year-month, month-day,
                    time, offset, zone, zone-name or iana, duration, rfc3339, rfc9557
-  --strict         stricter rules: a month-day does not have the day 00,
-                   and a duration does not repeat a unit
-  --ordered        also the order: no instant may be before that of the line before
+  --strict         the strict profile: a month-day does not have the day 00,
+                   a duration does not repeat a unit, and 1200 is a time
+  --ordered        also the order: no instant may be earlier than that of the line before
   ixdtf_check --kind rfc3339 times.txt
   ixdtf_check --kind=duration --strict durations.txt
 
@@ -67,8 +68,8 @@ Which lines are read:
 Which part of a line is read:
   --field N        field N of each line, counted from 1, and not the complete line
   --field NAME     the field that has this name in the first line; needs --header
-  --fields A-B     fields A to B, between which a line has one space
-  --csv            with --field: the lines are records of RFC 4180, with fields in quotes
+  --fields A-B     fields A to B as one text; in each line, a space separates two fields
+  --csv            with --field: lines are records of RFC 4180; fields may be in quotes
   --separator C    the byte between two fields; without this option, it is a tab,
                    or a comma with --csv, or a space with --fields
   ixdtf_check --field 3 --separator , table.csv
@@ -82,7 +83,7 @@ What is written:
   --max-reports N  at most N reports, and the number of the others
   --format FORMAT  the form of the reports: text (the default), or json
   --color WHEN     colours in the reports: auto (the default), always or never
-  --quiet          nothing about lines that are refused
+  --quiet          no reports about refused lines; the counts are still written
   ixdtf_check --canonical --quiet dates.txt
 
 Other:
@@ -92,7 +93,7 @@ Other:
   The file - is standard input.
 
 Exit status: 0 if every line was accepted, 1 if a line was refused, and 2 if an
-argument is wrong, or if a file, standard output or a report failed.";
+argument is wrong, a file could not be checked, or something could not be written.";
 
 const VERSION: &str = concat!("ixdtf_check ", env!("CARGO_PKG_VERSION"));
 
@@ -233,7 +234,7 @@ fn standard_output() -> Box<dyn Write> {
 }
 
 /// Checks the file with this name. The name `-` means standard input.
-fn check_file(options: &Options, field_name: Option<&[u8]>, name: &str, outputs: &mut Outputs, outcome: &mut Outcome) {
+fn check_file(options: &Options, field_name: Option<&str>, name: &str, outputs: &mut Outputs, outcome: &mut Outcome) {
     let Some(request) = options.request(name) else {
         return;
     };
@@ -250,7 +251,7 @@ fn check_file(options: &Options, field_name: Option<&[u8]>, name: &str, outputs:
 fn check_reader<R: Read>(
     reader: &mut R,
     options: &Options,
-    field_name: Option<&[u8]>,
+    field_name: Option<&str>,
     mut request: Request<'_>,
     outputs: &mut Outputs,
     outcome: &mut Outcome,
@@ -265,16 +266,16 @@ fn check_reader<R: Read>(
     let line = front.split(|byte| *byte == b'\n').next().unwrap_or(&front);
     let field = options.field_after(0);
     let column = if field.extent == Extent::Csv {
-        column_in_record(field.separator, field_name, line, &mut [0; LINE_LIMIT])
+        column_in_record(field.separator, field_name.as_bytes(), line, &mut [0; LINE_LIMIT])
     } else {
-        column_named(field.separator, field_name, line)
+        column_named(field.separator, field_name.as_bytes(), line)
     };
     match column {
         Ok(before) => {
             request.field = Some(options.field_after(before));
             check_request(&mut front.as_slice().chain(reader), request, outputs, outcome);
         }
-        Err(error) => complain(request.name, error.message(), outcome),
+        Err(error) => complain(request.name, format_args!("--field {field_name}: {}", error.message()), outcome),
     }
 }
 

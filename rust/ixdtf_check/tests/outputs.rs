@@ -1,10 +1,10 @@
 //! Tests what the program writes to standard output, and what to standard error. Neither is a terminal here.
 
 use std::io::Write;
-use std::process::{Command, Stdio};
+use std::process::{Command, Output, Stdio};
 
-/// Runs the program on an input. Returns what it writes to standard output and to standard error.
-fn outputs(arguments: &[&str], input: &[u8]) -> (String, String) {
+/// Runs the program on an input.
+fn run(arguments: &[&str], input: &[u8]) -> Output {
     let mut program = Command::new(env!("CARGO_BIN_EXE_ixdtf_check"))
         .args(arguments)
         .env_remove("NO_COLOR")
@@ -14,7 +14,12 @@ fn outputs(arguments: &[&str], input: &[u8]) -> (String, String) {
         .spawn()
         .unwrap();
     program.stdin.take().unwrap().write_all(input).unwrap();
-    let done = program.wait_with_output().unwrap();
+    program.wait_with_output().unwrap()
+}
+
+/// Runs the program on an input with a line that is refused. Returns what it writes to standard output and to standard error.
+fn outputs(arguments: &[&str], input: &[u8]) -> (String, String) {
+    let done = run(arguments, input);
     assert_eq!(done.status.code(), Some(1));
     (String::from_utf8(done.stdout).unwrap(), String::from_utf8(done.stderr).unwrap())
 }
@@ -62,6 +67,40 @@ fn objects_stand_alone_on_standard_error() {
     );
     assert_eq!(outputs(&["--canonical", "--format=json"], LINES), ("2020-01-01\n".to_owned(), object.to_owned()));
     assert_eq!(outputs(&["--format=json"], LINES), (object.to_owned(), SUMMARY.to_owned()));
+}
+
+/// Options with a name that is not the name of exactly one field, first lines, and what the message says after the name.
+const NAMES: &[(&[&str], &str, &str)] = &[
+    (&["--field", "day"], "id\tdate", "expected a field with this name in the first line, but no field there has it"),
+    (&["--field", "day"], "", "expected a field with this name in the first line, but no field there has it"),
+    (
+        &["--field=day"],
+        "id,day",
+        "expected a field with this name in the first line, but that line has only one field; --separator C says which byte separates fields",
+    ),
+    (&["--field=day", "--csv"], "day,id,day", "expected one field with this name in the first line, but two fields there have it"),
+    (
+        &["--csv", "--field", "day"],
+        "id,\"day",
+        "expected names in the first line, but a quote there is not closed, or is at a wrong place",
+    ),
+];
+
+#[test]
+fn the_name_of_a_field_is_in_the_message() {
+    for (options, first, why) in NAMES {
+        let done = run(&[&["--header"], *options].concat(), format!("{first}\n1,2\n").as_bytes());
+        assert_eq!((done.status.code(), done.stdout), (Some(2), Vec::new()));
+        let wanted = format!("ixdtf_check: -: --field day: {why}\n0 lines, 0 refused, 0 bytes\n");
+        assert_eq!(String::from_utf8(done.stderr).unwrap(), wanted);
+    }
+}
+
+#[test]
+fn a_name_may_have_an_equals_sign() {
+    let done = run(&["--header", "--field=a=b"], b"a\tb\n");
+    assert!(done.stderr.starts_with(b"ixdtf_check: -: --field a=b: "));
+    assert_eq!(run(&["--header", "--field=a=b"], b"a\ta=b\n1\t2024-03-02\n").status.code(), Some(0));
 }
 
 #[test]

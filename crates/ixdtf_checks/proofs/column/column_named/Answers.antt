@@ -46,7 +46,7 @@ returns-in-Ok-None-clause-err c =
     (λ told. λ named. c.is_named-2.ensures.no told (named_here_only separator l.before l.start name line field l.invariant.starts has named))
     c.in-Ok-None.ensures.ok c.in-Ok-None.ensures.none in
     rw (← c.line_in-line.ensures.text)
-    (is_missing separator l.before l.start name line l.invariant.starts at (rw c.in-Ok-None.field-0-is at seen))
+    (c.missing_in.ensures name (is_missing separator l.before l.start name line l.invariant.starts at (rw c.in-Ok-None.field-0-is at seen)))
 
 pub returns-in-Ok-Some-clause-ok : goal.returns-in-Ok-Some-clause-ok
 returns-in-Ok-Some-clause-ok c =
