@@ -1,11 +1,12 @@
 -- Proves which bytes a printed text has.
-use Rattle.std.proofs.Common.{◌≡◌, ◌≤◌, ◌<◌, ◌∙◌, ℕ, List, [], ◌∷◌, ◌++◌, length, map, take, codes, Result, Ok, Err, IfOk, refl, sym, ap, arith, append_assoc}
+use Rattle.std.proofs.Common.{◌≡◌, ◌≤◌, ◌<◌, ◌∙◌, ◌+◌, ℕ, List, [], ◌∷◌, ◌++◌, length, map, take, codes, Result, Ok, Err, IfOk, refl, sym, ap, arith, append_assoc}
+use Rattle.std.proofs.lemmas.List.{length-map}
 use Rattle.ixdtf.specs.language.{Digits.padded_digits, Letters.{Text, byte_letter}, Languages.Found}
 use Rattle.ixdtf_buffers.specs.Adding.{Adds}
 use Rattle.ixdtf_print.specs.declared.error.PrintError.{PrintError, TheVariants.{NotPrintable, TooShort}}
 use Rattle.ixdtf_print.specs.{Printing.PrintsOrRefuses, Prints.Prints, Shown.code_point}
 use Rattle.ixdtf_print.proofs.code.PutBytes.{front_of_new}
-use Rattle.ixdtf_answers.specs.{Answer.{Gives, letters, read_answer_of}, Fields.nine_digits_of, Parts.HasPrinted, Word.reader_of, declared.word.Word.Word}
+use Rattle.ixdtf_answers.specs.{Answer.{Gives, letters, read_answer_of}, Fields.nine_digits_of, Parts.{HasPrinted, IsPrinted}, Word.reader_of, declared.word.Word.Word}
 
 -- If bytes stand for a text, the bytes of this text are these bytes.
 pub spelled_bytes : (bytes : List ℕ) (text : Text) → map byte_letter bytes ≡ text → map code_point text ≡ bytes
@@ -16,7 +17,7 @@ spelled_bytes bytes text e = ap (λ (t : Text). map code_point t) (sym e) ∙ ba
     back (byte ∷ bytes) = ap (λ (t : List ℕ). byte ∷ t) (back bytes)
 
 -- If the canonical text is shorter than the array, the printer writes it to the beginning of the array and returns its length.
-pub printed_front : {printable : Type 0} {canonical : Text} {old new : List ℕ} {count : ℕ} (result : Result ℕ PrintError)
+printed_front : {printable : Type 0} {canonical : Text} {old new : List ℕ} {count : ℕ} (result : Result ℕ PrintError)
     → PrintsOrRefuses printable canonical old new result → printable → length canonical < length old → IfOk result (λ n. count ≡ n)
     → (count ≡ length canonical) × (take count new ≡ map code_point canonical)
 printed_front {canonical = canonical} {new = new} (Ok n) prints is fits counted =
@@ -34,6 +35,16 @@ has_printed word text found canonical room count gives answer short (counted, fr
   fits = omega (arith, counted, short);
   answer = rw front answer;
 }
+
+-- As above, if a printer wrote the canonical text. The array has room for it, because it is hardly longer than the text.
+pub is_printed : (word : Word) (text : List ℕ) (found : Found) (canonical : Text) {printable : Type 0} {old new : List ℕ} {count : ℕ} {result : Result ℕ PrintError}
+    → Gives (reader_of word) (letters text) found → codes "ok " ++ map code_point canonical ≡ read_answer_of word found
+    → length canonical ≤ length (letters text) + 255 → length text ≤ 4096 → 4352 ≤ length old → printable → PrintsOrRefuses printable canonical old new result
+    → IfOk result (λ n. count ≡ n) → IsPrinted word text new (Ok count)
+is_printed word text found canonical {result = result} gives answer fits few room is prints counted =
+    let short : length canonical < 4352 = omega (arith, fits, few, length-map text byte_letter) in
+    let front = printed_front result prints is (omega (arith, room, short)) counted in
+    record { ok = has_printed word text found canonical _ _ gives answer short front; err = tt }
 
 -- Nine digits were printed after the added bytes, so they were added too.
 pub adds_digits : {old mid new : List ℕ} {at from to : ℕ} {first : List ℕ} (number : ℕ) → Adds old mid at from first → from ≤ length mid

@@ -1,7 +1,7 @@
 //! The job `awkward`: texts with many annotations, long names, long fractions, repeated duration units, and long lines.
 
 use crate::digest::Digest;
-use crate::mix::Mix;
+use crate::mix::{LongRow, Mix};
 use crate::programs::{DATE_TIMES, PRINTED, checked};
 use crate::readers::widened;
 use crate::records::{add_duration, add_error, add_located_verdict, add_record, add_wide_record};
@@ -21,81 +21,40 @@ const MASK: &[u8] = b"dddd-.n-qe.bd:md:md";
 /// as many. Returns a digest of all results.
 pub fn awkward(alloc: Global, seed: u64, count: u64) -> Result<u64, AllocError> {
     let mut digest = Digest::new();
-    read_brackets(&mut digest, alloc, seed, count)?;
-    read_numbers(&mut digest, alloc, seed, count)?;
-    let mut lines = Mix::new(alloc, seed);
-    lines.add_long(256, FRONT, MASK, (7_200, b"[ab=cdef]"), b"\n")?;
-    lines.add_long(
-        256,
-        b"2024-03-02[Etc/x",
-        b"dddd-.n-qe",
-        (6_000, b"/Abcdefg_h"),
-        b"]\n",
-    )?;
-    lines.add_long(256, FRONT, MASK, (50, b"[!u-ca=iso8601]"), b"x\n")?;
-    lines.add_long(256, FRONT, MASK, (6_560, b"[ab=cdefg]"), b"\n")?;
+    read_brackets(&mut digest, Mix::of_long(alloc, seed, BRACKETS)?, count);
+    read_numbers(&mut digest, Mix::of_long(alloc, seed, NUMBERS)?, count);
+    let mut lines = Mix::of_long(alloc, seed, LINES)?;
     digest.add(checked(&mut lines, count / 10, &DATE_TIMES));
     digest.add(checked(&mut lines, count / 10, &PRINTED));
     Ok(digest.value())
 }
 
-/// Reads texts with many brackets, and texts with long names.
-fn read_brackets(
-    digest: &mut Digest,
-    alloc: Global,
-    seed: u64,
-    count: u64,
-) -> Result<(), AllocError> {
-    let mut texts = Mix::new(alloc, seed);
-    texts.add_long(
-        200,
-        FRONT,
-        MASK,
-        (40, b"[x-key=some-value]"),
-        b"[u-ca=hebrew]",
-    )?;
-    texts.add_long(200, FRONT, MASK, (300, b"[a=b]"), b"")?;
-    texts.add_long(
-        100,
-        FRONT,
-        MASK,
-        (120, b"[u-ca=iso8601][x_y=12345678]"),
-        b"[!x=1]",
-    )?;
-    texts.add_long(
-        100,
-        b"2024-03-02[u-ca=gregory]",
-        b"dddd-.n-qe",
-        (80, b"[foo=bar-baz]"),
-        b"]",
-    )?;
-    texts.add_long(
-        124,
-        b"2024-03-02[America",
-        b"dddd-.n-qe",
-        (120, b"/Long_name"),
-        b"]",
-    )?;
-    texts.add_long(
-        150,
-        b"2024-03-02[u-ca=a",
-        b"dddd-.n-qe",
-        (120, b"bcdefgh-j"),
-        b"]",
-    )?;
-    texts.add_long(
-        150,
-        b"2024-03-02[k",
-        b"dddd-.n-qe",
-        (120, b"ey_of-ma9"),
-        b"=1]",
-    )?;
+#[rattlefmt::skip]
+const LINES: &[LongRow] = &[
+    (256, FRONT, MASK, (7_200, b"[ab=cdef]"), b"\n"),
+    (256, b"2024-03-02[Etc/x", b"dddd-.n-qe", (6_000, b"/Abcdefg_h"), b"]\n"),
+    (256, FRONT, MASK, (50, b"[!u-ca=iso8601]"), b"x\n"),
+    (256, FRONT, MASK, (6_560, b"[ab=cdefg]"), b"\n"),
+];
+
+/// Texts with many brackets, and texts with long names in brackets.
+#[rattlefmt::skip]
+const BRACKETS: &[LongRow] = &[
+    (200, FRONT, MASK, (40, b"[x-key=some-value]"), b"[u-ca=hebrew]"),
+    (200, FRONT, MASK, (300, b"[a=b]"), b""),
+    (100, FRONT, MASK, (120, b"[u-ca=iso8601][x_y=12345678]"), b"[!x=1]"),
+    (100, b"2024-03-02[u-ca=gregory]", b"dddd-.n-qe", (80, b"[foo=bar-baz]"), b"]"),
+    (124, b"2024-03-02[America", b"dddd-.n-qe", (120, b"/Long_name"), b"]"),
+    (150, b"2024-03-02[u-ca=a", b"dddd-.n-qe", (120, b"bcdefgh-j"), b"]"),
+    (150, b"2024-03-02[k", b"dddd-.n-qe", (120, b"ey_of-ma9"), b"=1]"),
+];
+
+fn read_brackets(digest: &mut Digest, mut texts: Mix, count: u64) {
     let mut wide = [0; TEXT_SIZE];
     for number in 0..count {
         let _ = texts.choose();
         read_long(digest, number, texts.text(), &mut wide);
     }
-    Ok(())
 }
 
 /// Reads the text by one of four calls. `number` decides which one.
@@ -126,40 +85,24 @@ fn read_handled(digest: &mut Digest, text: &[u8]) {
     digest.add(calls);
 }
 
-/// Reads texts with long numbers, durations with many duration units, and long names of zones.
-fn read_numbers(
-    digest: &mut Digest,
-    alloc: Global,
-    seed: u64,
-    count: u64,
-) -> Result<(), AllocError> {
-    let mut texts = Mix::new(alloc, seed);
-    texts.add(
-        200,
-        b"-002024-03-02T08:48:00.123456789012345678901234567890Z",
-        b"...dddd-.n-qe.bd:md:md.dddddd",
-    )?;
-    texts.add(
-        300,
-        b"+002024-03-02 08:48:60,123456789012345678-05:30:15.123456789012345678[+01:00]",
-        b"...dddd-.n-qe.bd:md.....dddddd",
-    )?;
-    texts.add_long(100, b"P1234Y", b".dddd", (1000, b"12Y"), b"")?;
-    texts.add_long(100, b"PT1234H", b"..dddd", (500, b"7M8S"), b"")?;
-    texts.add_long(100, b"PT123456789S", b"..dddddd", (900, b"00000"), b"")?;
-    texts.add_long(
-        124,
-        b"P1Y2M3W4DT5H6M7.123456",
-        b".d.d.d.d..d.d.d.dddddd",
-        (1, b"789S"),
-        b"",
-    )?;
-    texts.add_long(100, b"Europe", b".lllll", (200, b"/Xyz-1_2"), b"")?;
+/// Texts with long numbers, durations with many duration units, and long names of zones.
+#[rattlefmt::skip]
+const NUMBERS: &[LongRow] = &[
+    (200, b"-002024-03-02T08:48:00.123456789012345678901234567890Z", b"...dddd-.n-qe.bd:md:md.dddddd", (0, b""), b""),
+    (300, b"+002024-03-02 08:48:60,123456789012345678-05:30:15.123456789012345678[+01:00]",
+        b"...dddd-.n-qe.bd:md.....dddddd", (0, b""), b""),
+    (100, b"P1234Y", b".dddd", (1000, b"12Y"), b""),
+    (100, b"PT1234H", b"..dddd", (500, b"7M8S"), b""),
+    (100, b"PT123456789S", b"..dddddd", (900, b"00000"), b""),
+    (124, b"P1Y2M3W4DT5H6M7.123456", b".d.d.d.d..d.d.d.dddddd", (1, b"789S"), b""),
+    (100, b"Europe", b".lllll", (200, b"/Xyz-1_2"), b""),
+];
+
+fn read_numbers(digest: &mut Digest, mut texts: Mix, count: u64) {
     for number in 0..count {
         let shape = texts.choose();
         read_number(digest, number, shape, texts.text());
     }
-    Ok(())
 }
 
 /// Reads the text by a reader for its shape: a date and time, a duration, or a zone.

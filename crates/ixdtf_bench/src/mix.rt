@@ -10,6 +10,19 @@ use std::io::Read;
 /// The number of parts of a mix.
 const PARTS: usize = 1024;
 
+/// A row for a text: how many parts of the mix have this text, the text itself, and its mask (`Kept::new`).
+pub type Row = (usize, &'static [u8], &'static [u8]);
+
+/// A row for a long text: the number of parts, the beginning of the text, the mask of the beginning, the number of repetitions of
+/// a piece, the piece, and the end of the text.
+pub type LongRow = (
+    usize,
+    &'static [u8],
+    &'static [u8],
+    (usize, &'static [u8]),
+    &'static [u8],
+);
+
 /// Texts of several shapes. A text of a shape is kept, and changes when its shape is chosen again.
 #[derive(Drop)]
 pub struct Mix {
@@ -33,6 +46,24 @@ impl Mix {
         }
     }
 
+    /// Creates a mix of the texts of these rows.
+    pub fn of(alloc: Global, seed: u64, rows: &[Row]) -> Result<Mix, AllocError> {
+        let mut mix = Mix::new(alloc, seed);
+        for (parts, text, mask) in rows {
+            mix.add(*parts, text, mask)?;
+        }
+        Ok(mix)
+    }
+
+    /// Creates a mix of the long texts of these rows.
+    pub fn of_long(alloc: Global, seed: u64, rows: &[LongRow]) -> Result<Mix, AllocError> {
+        let mut mix = Mix::new(alloc, seed);
+        for (parts, front, mask, pieces, end) in rows {
+            mix.add_long(*parts, front, mask, *pieces, end)?;
+        }
+        Ok(mix)
+    }
+
     /// Adds a text to `parts` of the 1,024 parts of the mix. The mask says which of its bytes change (`Kept::new`).
     pub fn add(&mut self, parts: usize, text: &[u8], mask: &[u8]) -> Result<(), AllocError> {
         let kept = Kept::new(self.alloc, text, mask, &mut self.random)?;
@@ -41,7 +72,7 @@ impl Mix {
 
     /// Adds a text that has a beginning, a repeated piece, and an end. The mask says which bytes of the beginning change. `pieces`
     /// is the number of repetitions, and the piece.
-    pub fn add_long(
+    fn add_long(
         &mut self,
         parts: usize,
         front: &[u8],

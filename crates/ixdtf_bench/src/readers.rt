@@ -32,6 +32,51 @@ enum Call {
     Duration,
 }
 
+/// The texts of this job. Each row has the number of parts of the mix that have the text, the call that reads it, the text, and
+/// its mask (`Kept::new`).
+#[rattlefmt::skip]
+const TEXTS: &[(usize, Call, &[u8], &[u8])] = &[
+    (100, Call::Parse, b"2024-03-02T08:48:00-05:00[America/New_York][u-ca=hebrew]", b"dddd-.n-qe.bd:md:md"),
+    (60, Call::ParseLocated, b"2024-03-02T08:48:00-05:00[America/New_York]", b"dddd-.n-qe.bd:md:md"),
+    (60, Call::ParseHandled, b"2024-03-02T08:48:00.25Z[Europe/Berlin][u-ca=gregory][x-source=import]", b"dddd-.n-qe.bd:md:md.dd"),
+    (120, Call::Parse, b"2024-03-02", b"dddd-.n-qe"),
+    (30, Call::Parse, b"+002024-03-02", b"...dddd-.n-qe"),
+    (100, Call::Parse, b"2024-03-02T08:48:00Z", b"dddd-.n-qe.bd:md:md"),
+    (60, Call::Parse, b"2024-03-02T08:48:00.123456Z", b"dddd-.n-qe.bd:md:md.dddddd"),
+    (40, Call::ParseLocated, b"20240302T084800+0100", b"dddd.nqe.bdmdmd"),
+    // These texts are read as 16-bit text.
+    (60, Call::ParseWide, b"2024-03-02T08:48:00-05:00[America/New_York][u-ca=hebrew]", b"dddd-.n-qe.bd:md:md"),
+    (40, Call::ParseWide, b"2024-03-02", b"dddd-.n-qe"),
+    (40, Call::ParseWide, b"2024-03-02T08:48:00.123Z", b"dddd-.n-qe.bd:md:md.ddd"),
+    // Some of these texts have only a part of a date. The others have no date.
+    (30, Call::YearMonth, b"+002020-01", b".dddddd-.n"),
+    (6, Call::YearMonth, b"2020-01", b"dddd-.n"),
+    (20, Call::MonthDay, b"01-07[u-ca=gregory]", b".n-qe......lllll"),
+    (30, Call::Time, b"T15:23:30.123", b".bd:md:md.ddd"),
+    (10, Call::Time, b"15:23:30-05:00", b"bd:md:md-.n:md"),
+    (10, Call::Offset, b"-05:30:15.5", b".bd:md:md.d"),
+    (16, Call::Offset, b"+05:30:15.123", b".bd:md:md.ddd"),
+    (30, Call::Identifier, b"Europe/Berlin", b"........lllll"),
+    (20, Call::Name, b"America/Argentina/Buenos_Aires", b".............llll.......lll"),
+    // These texts are durations.
+    (20, Call::Duration, b"P1234567D", b".ndddddd"),
+    (20, Call::Duration, b"PT12H30M15S", b"..nd.md.md"),
+    (32, Call::Duration, b"P1Y2M3DT4H5M6.25S", b".n.n.n..n.n.n.dd"),
+    (10, Call::Duration, b"-P12W3DT4H15M", b"..dd.d..d.md"),
+    // If one of these texts is accepted, only the number 1 is added to the digest. If it is refused, its error is added, and for
+    // `LocatedVerdict` also the position of the error. Eight of these ten texts are refused.
+    (20, Call::Verdict, b"2024-03-02T08:48", b"dddd-.n-qe.bd:md"),
+    (20, Call::LocatedVerdict, b"20240302T084800Z", b"dddd.nqe.bdmdmd"),
+    (2, Call::Verdict, b"2024-13-02T08:48", b"dddd....qe.bd:md"),
+    (2, Call::Verdict, b"2024-03-0xT08:48", b"dddd-.n....bd:md"),
+    (2, Call::Verdict, b"2024-3-02T08:48:00Z", b"dddd-n-qe.bd:md:md"),
+    (2, Call::LocatedVerdict, b"2024-03-02T08:61:00Z", b"dddd-.n-qe.bd....md"),
+    (2, Call::LocatedVerdict, b"2024-03-02T08:48:0", b"dddd-.n-qe.bd:md:d"),
+    (2, Call::LocatedVerdict, b"2024-03-02T08:48:00+5:00", b"dddd-.n-qe.bd:md:md"),
+    (4, Call::Verdict, b"2024-03-02T08:48:00Z[Europe/]", b"dddd-.n-qe.bd:md:md"),
+    (4, Call::LocatedVerdict, b"2024-03-02T08:48:00Z[u-ca=]", b"dddd-.n-qe.bd:md:md"),
+];
+
 /// Texts, and the call that reads each of them.
 #[derive(Drop)]
 struct Texts {
@@ -40,15 +85,14 @@ struct Texts {
 }
 
 impl Texts {
-    fn add(
-        &mut self,
-        parts: usize,
-        call: Call,
-        text: &[u8],
-        mask: &[u8],
-    ) -> Result<(), AllocError> {
-        self.calls.push(call)?;
-        self.mix.add(parts, text, mask)
+    fn new(alloc: Global, seed: u64) -> Result<Texts, AllocError> {
+        let mut mix = Mix::new(alloc, seed);
+        let mut calls = Vec::new(alloc);
+        for (parts, call, text, mask) in TEXTS {
+            calls.push(*call)?;
+            mix.add(*parts, text, mask)?;
+        }
+        Ok(Texts { mix, calls })
     }
 
     fn next_call(&mut self) -> Call {
@@ -62,15 +106,7 @@ impl Texts {
 
 /// Reads `count` texts, and returns a digest of the records and errors.
 pub fn readers(alloc: Global, seed: u64, count: u64) -> Result<u64, AllocError> {
-    let mut texts = Texts {
-        mix: Mix::new(alloc, seed),
-        calls: Vec::new(alloc),
-    };
-    add_date_times(&mut texts)?;
-    add_wide_texts(&mut texts)?;
-    add_other_texts(&mut texts)?;
-    add_durations(&mut texts)?;
-    add_short_texts(&mut texts)?;
+    let mut texts = Texts::new(alloc, seed)?;
     let mut digest = Digest::new();
     let mut wide = [0; TEXT_SIZE];
     for _ in 0..count {
@@ -191,143 +227,4 @@ pub fn widened<'w, const N: usize>(text: &[u8], room: &'w mut [u16; N]) -> &'w [
         room[at] = u16::from(text[at]);
     }
     &room[..count]
-}
-
-fn add_date_times(texts: &mut Texts) -> Result<(), AllocError> {
-    texts.add(
-        100,
-        Call::Parse,
-        b"2024-03-02T08:48:00-05:00[America/New_York][u-ca=hebrew]",
-        b"dddd-.n-qe.bd:md:md",
-    )?;
-    texts.add(
-        60,
-        Call::ParseLocated,
-        b"2024-03-02T08:48:00-05:00[America/New_York]",
-        b"dddd-.n-qe.bd:md:md",
-    )?;
-    texts.add(
-        60,
-        Call::ParseHandled,
-        b"2024-03-02T08:48:00.25Z[Europe/Berlin][u-ca=gregory][x-source=import]",
-        b"dddd-.n-qe.bd:md:md.dd",
-    )?;
-    texts.add(120, Call::Parse, b"2024-03-02", b"dddd-.n-qe")?;
-    texts.add(30, Call::Parse, b"+002024-03-02", b"...dddd-.n-qe")?;
-    texts.add(
-        100,
-        Call::Parse,
-        b"2024-03-02T08:48:00Z",
-        b"dddd-.n-qe.bd:md:md",
-    )?;
-    texts.add(
-        60,
-        Call::Parse,
-        b"2024-03-02T08:48:00.123456Z",
-        b"dddd-.n-qe.bd:md:md.dddddd",
-    )?;
-    texts.add(
-        40,
-        Call::ParseLocated,
-        b"20240302T084800+0100",
-        b"dddd.nqe.bdmdmd",
-    )
-}
-
-fn add_wide_texts(texts: &mut Texts) -> Result<(), AllocError> {
-    texts.add(
-        60,
-        Call::ParseWide,
-        b"2024-03-02T08:48:00-05:00[America/New_York][u-ca=hebrew]",
-        b"dddd-.n-qe.bd:md:md",
-    )?;
-    texts.add(40, Call::ParseWide, b"2024-03-02", b"dddd-.n-qe")?;
-    texts.add(
-        40,
-        Call::ParseWide,
-        b"2024-03-02T08:48:00.123Z",
-        b"dddd-.n-qe.bd:md:md.ddd",
-    )
-}
-
-fn add_other_texts(texts: &mut Texts) -> Result<(), AllocError> {
-    texts.add(30, Call::YearMonth, b"+002020-01", b".dddddd-.n")?;
-    texts.add(6, Call::YearMonth, b"2020-01", b"dddd-.n")?;
-    texts.add(
-        20,
-        Call::MonthDay,
-        b"01-07[u-ca=gregory]",
-        b".n-qe......lllll",
-    )?;
-    texts.add(30, Call::Time, b"T15:23:30.123", b".bd:md:md.ddd")?;
-    texts.add(10, Call::Time, b"15:23:30-05:00", b"bd:md:md-.n:md")?;
-    texts.add(10, Call::Offset, b"-05:30:15.5", b".bd:md:md.d")?;
-    texts.add(16, Call::Offset, b"+05:30:15.123", b".bd:md:md.ddd")?;
-    texts.add(30, Call::Identifier, b"Europe/Berlin", b"........lllll")?;
-    texts.add(
-        20,
-        Call::Name,
-        b"America/Argentina/Buenos_Aires",
-        b".............llll.......lll",
-    )
-}
-
-fn add_durations(texts: &mut Texts) -> Result<(), AllocError> {
-    texts.add(20, Call::Duration, b"P1234567D", b".ndddddd")?;
-    texts.add(20, Call::Duration, b"PT12H30M15S", b"..nd.md.md")?;
-    texts.add(
-        32,
-        Call::Duration,
-        b"P1Y2M3DT4H5M6.25S",
-        b".n.n.n..n.n.n.dd",
-    )?;
-    texts.add(10, Call::Duration, b"-P12W3DT4H15M", b"..dd.d..d.md")
-}
-
-fn add_short_texts(texts: &mut Texts) -> Result<(), AllocError> {
-    texts.add(20, Call::Verdict, b"2024-03-02T08:48", b"dddd-.n-qe.bd:md")?;
-    texts.add(
-        20,
-        Call::LocatedVerdict,
-        b"20240302T084800Z",
-        b"dddd.nqe.bdmdmd",
-    )?;
-    texts.add(2, Call::Verdict, b"2024-13-02T08:48", b"dddd....qe.bd:md")?;
-    texts.add(2, Call::Verdict, b"2024-03-0xT08:48", b"dddd-.n....bd:md")?;
-    texts.add(
-        2,
-        Call::Verdict,
-        b"2024-3-02T08:48:00Z",
-        b"dddd-n-qe.bd:md:md",
-    )?;
-    texts.add(
-        2,
-        Call::LocatedVerdict,
-        b"2024-03-02T08:61:00Z",
-        b"dddd-.n-qe.bd....md",
-    )?;
-    texts.add(
-        2,
-        Call::LocatedVerdict,
-        b"2024-03-02T08:48:0",
-        b"dddd-.n-qe.bd:md:d",
-    )?;
-    texts.add(
-        2,
-        Call::LocatedVerdict,
-        b"2024-03-02T08:48:00+5:00",
-        b"dddd-.n-qe.bd:md:md",
-    )?;
-    texts.add(
-        4,
-        Call::Verdict,
-        b"2024-03-02T08:48:00Z[Europe/]",
-        b"dddd-.n-qe.bd:md:md",
-    )?;
-    texts.add(
-        4,
-        Call::LocatedVerdict,
-        b"2024-03-02T08:48:00Z[u-ca=]",
-        b"dddd-.n-qe.bd:md:md",
-    )
 }

@@ -8,7 +8,7 @@ use Rattle.std.specs.Simd.Lanes.{chunk, mask_l}
 use lib.Count.{count_trailing_zeros, ones}
 
 -- No byte before the index passes the test, and the byte at the index passes it.
-pub first_there : (test : ℕ → Bool) (bytes : List ℕ) (place : ℕ) → place < length bytes → ((k : ℕ) → k < place → test (get_or bytes k 0) ≡ false)
+first_there : (test : ℕ → Bool) (bytes : List ℕ) (place : ℕ) → place < length bytes → ((k : ℕ) → k < place → test (get_or bytes k 0) ≡ false)
     → test (get_or bytes place 0) ≡ true → Some place ≡ position test bytes
 first_there test bytes place within before there =
     let is = position_or_len_is test bytes place 0 (omega arith) before (λ _. there) in
@@ -21,7 +21,7 @@ found_nowhere test bytes before =
     rw (is, le-ltb (length bytes) (length bytes) (omega arith)) refl
 
 -- No byte before one index passes the test, and no byte from there up to another index passes it.
-pub none_so_far : (test : ℕ → Bool) (bytes : List ℕ) (start from end : ℕ) → from ≤ start → ((k : ℕ) → k < start → test (get_or bytes k 0) ≡ false)
+none_so_far : (test : ℕ → Bool) (bytes : List ℕ) (start from end : ℕ) → from ≤ start → ((k : ℕ) → k < start → test (get_or bytes k 0) ≡ false)
     → ((k : ℕ) → from ≤ k → k < end → test (get_or bytes k 0) ≡ false) → (k : ℕ) → k < end → test (get_or bytes k 0) ≡ false
 none_so_far test bytes start from end met before here k below =
     ⊎_elim (λ early. before k early) (λ late. here k (omega (arith, late, met)) below) (cases_lt k start)
@@ -38,12 +38,12 @@ marked_below test (x ∷ lanes) some = step (test x) some (marked_below test lan
     step false some next = omega (arith, next (omega (arith, some)))
 
 -- The first marked byte of sixteen: it passes the test, and no byte of the sixteen before it passes.
-pub record FirstMarked (test : ℕ → Bool) (bytes : List ℕ) (start count : ℕ) : Type 0 where
+record FirstMarked (test : ℕ → Bool) (bytes : List ℕ) (start count : ℕ) : Type 0 where
   pub below : count < 16
   pub before : (k : ℕ) → start ≤ k → k < start + count → test (get_or bytes k 0) ≡ false
   pub there : test (get_or bytes (start + count) 0) ≡ true
 
-pub first_marked : (test : ℕ → Bool) (bytes : List ℕ) (start marks : ℕ) → start + 16 ≤ length bytes → marks ≡ mask_l (map test (chunk start 16 bytes))
+first_marked : (test : ℕ → Bool) (bytes : List ℕ) (start marks : ℕ) → start + 16 ≤ length bytes → marks ≡ mask_l (map test (chunk start 16 bytes))
     → 0 < marks → FirstMarked test bytes start (count_trailing_zeros 64 marks)
 first_marked test bytes start marks room same some =
     let lanes = chunk start 16 bytes in
@@ -59,9 +59,22 @@ first_marked test bytes start marks room same some =
     }
 
 -- If no byte is marked, none of the sixteen bytes passes the test.
-pub none_marked : (test : ℕ → Bool) (bytes : List ℕ) (start marks : ℕ) → start + 16 ≤ length bytes → marks ≡ mask_l (map test (chunk start 16 bytes))
+none_marked : (test : ℕ → Bool) (bytes : List ℕ) (start marks : ℕ) → start + 16 ≤ length bytes → marks ≡ mask_l (map test (chunk start 16 bytes))
     → marks ≡ 0 → (k : ℕ) → start ≤ k → k < start + 16 → test (get_or bytes k 0) ≡ false
 none_marked test bytes start marks room same none = none_from_empty_mask test bytes start 16 0 room (sym same ∙ none)
+
+-- Sixteen bytes were compared, and no byte before them passes the test. If a byte is marked, the first marked byte is the first byte
+-- that passes. Otherwise, no byte passes up to the end of the sixteen.
+module _ (test : ℕ → Bool) (bytes : List ℕ) (start from marks : ℕ) (room : from + 16 ≤ length bytes) (met : from ≤ start)
+    (before : (k : ℕ) → k < start → test (get_or bytes k 0) ≡ false) (same : marks ≡ mask_l (map test (chunk from 16 bytes))) where
+  pub first_found : 0 < marks → (Some (from + count_trailing_zeros 64 marks) ≡ position test bytes) × (from + count_trailing_zeros 64 marks < length bytes)
+  first_found some =
+      let found = first_marked test bytes from marks room same some in
+      let within : from + count_trailing_zeros 64 marks < length bytes = omega (arith, found.below, room) in
+      (first_there test bytes _ within (none_so_far test bytes start from _ met before found.before) found.there, within)
+
+  pub none_found : marks ≡ 0 → (k : ℕ) → k < from + 16 → test (get_or bytes k 0) ≡ false
+  none_found none = none_so_far test bytes start from (from + 16) met before (none_marked test bytes from marks room same none)
 
 -- The number of marks is the number of bytes that pass the test.
 pub marks_counted : (test : ℕ → Bool) (lanes : List ℕ) (marks : ℕ) → marks ≡ mask_l (map test lanes) → ones marks ≡ count_by test lanes

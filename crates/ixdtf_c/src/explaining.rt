@@ -12,9 +12,8 @@ use crate::asked::reader_by_number;
 use crate::errors::number_and_location;
 use crate::reasons::number_of;
 use crate::refusals::refusal;
-use crate::wide_parts::part_of;
-use ixdtf::encoding::{EncodingType, Utf8, Utf16};
-use ixdtf::{LocatedError, WrongPart};
+use ixdtf::encoding::{Utf8, Utf16};
+use ixdtf::{LocatedError, Numbered, part_of};
 
 /// Why a reader refuses a text, and where.
 #[derive(Clone, Copy)]
@@ -32,35 +31,14 @@ pub struct Explanation {
     pub reason: u32,
 }
 
-/// An encoding of the texts whose errors are explained.
-pub trait Explained: EncodingType + Sized {
-    /// Returns the part of the text that is wrong. `text` must be the complete text that was refused with the error.
-    fn part_in(error: &LocatedError, text: &[Self::CodeUnit]) -> WrongPart
-        ensures part { IsPart (extent_of error.now.reason) (map Self.number text.now) (min error.now.at (length (map Self.number text.now))) result };
-}
-
-impl Explained for Utf8 {
-    #[inline(always)]
-    fn part_in(error: &LocatedError, text: &[u8]) -> WrongPart {
-        error.part_in(text)
-    }
-}
-
-impl Explained for Utf16 {
-    #[inline(always)]
-    fn part_in(error: &LocatedError, text: &[u16]) -> WrongPart {
-        part_of(error.reason, error.at, text)
-    }
-}
-
 /// Explains an error.
-fn explanation_of<T: Explained>(error: &LocatedError, text: &[T::CodeUnit]) -> Explanation
+fn explanation_of<T: Numbered>(error: &LocatedError, text: &[T::CodeUnit]) -> Explanation
     ensures { (part : Part)
         × IsPart (extent_of error.now.reason) (map T.number text.now) (min error.now.at (length (map T.number text.now))) part
         × (result ≡ explanation_for (fault_of_located error.now) error.now.at error.now.reason part) }
 {
     let (number, _) = number_and_location(error.error);
-    let part = T::part_in(error, text);
+    let part = part_of::<T>(error.reason, error.at, text);
     Explanation {
         place: error.at,
         begin: part.begin,
@@ -73,7 +51,7 @@ fn explanation_of<T: Explained>(error: &LocatedError, text: &[T::CodeUnit]) -> E
 /// Reads a text with the reader that has the number. Writes why this reader refuses the text. If it accepts the text, writes 0 to
 /// each field. Returns what the reader returns, or 105 if no reader has the number. Then nothing is written.
 #[inline(always)]
-fn explain_into<T: Explained>(number: u32, text: &[T::CodeUnit], out: &mut Explanation) -> u32
+fn explain_into<T: Numbered>(number: u32, text: &[T::CodeUnit], out: &mut Explanation) -> u32
     ensures explains { IfSome (asked_by number) (λ asked. Explains asked (map (λ unit. T.letter (T.number unit)) text.now)
         (map T.number text.now) result out.new) }
     ensures unknown { IfNone (asked_by number) ((result ≡ 105) × (out.new ≡ out.old)) }

@@ -3,20 +3,14 @@
 //! `Display` of `PointedText` writes the same bytes. But the contract of `Display` does not say when `Display` succeeds. The
 //! functions of this file always succeed.
 
-ghost use Rattle.std.specs.Prelude.{◌≡◌, ◌≤◌, length, map, take, drop, replicate};
+ghost use Rattle.std.specs.Prelude.{◌≤◌, length, map, take, drop, replicate};
 ghost use Rattle.std.specs.Str.{chars, encode_utf8_all};
 ghost use Rattle.std.specs.Char.{encode_utf8};
-ghost use Rattle.ixdtf_grammar.specs.LocatedTexts.{shown, column_of, cut_mark, line_of, indent_of, marks_of, pointed_text};
+ghost use Rattle.ixdtf_grammar.specs.LocatedTexts.{shown, line_of, pointed_text};
 ghost use Rattle.ixdtf_c.specs.Adding.{Adds};
 
 use crate::adding::add;
-use ixdtf::WrongPart;
-
-/// The greatest number of characters that are shown before the marks.
-const BEFORE_PLACE: usize = 48;
-
-/// The greatest number of characters that are shown from the first mark on, and the greatest number of marks.
-const FROM_PLACE: usize = 24;
+use ixdtf::{BEFORE_PLACE, FROM_PLACE, WrongPart, column_of, cut_mark, indent_of, marks_of};
 
 /// Adds the text, and under it a mark for each byte of the part: at least one mark and at most 24.
 pub fn add_pointed(out: &mut [u8], at: usize, text: &str, part: WrongPart) -> usize
@@ -29,52 +23,6 @@ pub fn add_pointed(out: &mut [u8], at: usize, text: &str, part: WrongPart) -> us
     add_repeated(out, marks, b'^', marks_of(part))
 }
 
-/// Returns the number of complete characters in the first `at` bytes of the text.
-fn column_of(text: &str, at: usize) -> usize
-    ensures column { result ≡ column_of (chars text.now) at }
-    ensures within { result ≤ length (chars text.now) }
-{
-    let mut column = 0;
-    let mut left = at;
-    for character in text.chars() {
-        let length = character.len_utf8();
-        if left < length {
-            return column;
-        }
-        left -= length;
-        column += 1;
-    }
-    column
-}
-
-/// Returns the number of columns before the first mark.
-fn indent_of(column: usize) -> usize
-    ensures { result ≡ indent_of column }
-{
-    if BEFORE_PLACE < column {
-        BEFORE_PLACE + 2
-    } else {
-        column
-    }
-}
-
-/// Returns the number of marks under a part.
-fn marks_of(part: WrongPart) -> usize
-    ensures { result ≡ marks_of part.begin part.end }
-{
-    if part.end <= part.begin {
-        return 1;
-    }
-    FROM_PLACE.min(part.end - part.begin)
-}
-
-/// Returns `..` if something is cut, and otherwise nothing.
-fn cut_mark(is_cut: bool) -> &'static [u8]
-    ensures { result.now ≡ cut_mark is_cut }
-{
-    if is_cut { b".." } else { b"" }
-}
-
 /// Adds the line of the text: at most 48 characters before the column, and at most 24 characters from the column on.
 fn add_line(out: &mut [u8], at: usize, text: &str, column: usize) -> usize
     requires { column ≤ length (chars text.now) }
@@ -82,9 +30,9 @@ fn add_line(out: &mut [u8], at: usize, text: &str, column: usize) -> usize
 {
     let last = column + FROM_PLACE;
     let is_longer = last < text.chars().count();
-    let front = add(out, at, cut_mark(BEFORE_PLACE < column));
+    let front = add(out, at, cut_mark(BEFORE_PLACE < column).as_bytes());
     let behind = add_characters(out, front, text, column.saturating_sub(BEFORE_PLACE), last);
-    add(out, behind, cut_mark(is_longer))
+    add(out, behind, cut_mark(is_longer).as_bytes())
 }
 
 /// Adds the characters from index `first` up to, but not including, index `last`.

@@ -1,8 +1,9 @@
 -- A report with colours, and the same report without them.
-use Rattle.std.proofs.Common.{◌≡◌, ℕ, ◌+◌, ◌-◌, List, ◌∷◌, ◌++◌, length, take, drop, position, Option, Some, None, refl, ap, ◌∙◌, append_assoc}
+use Rattle.std.proofs.Common.{◌≡◌, ℕ, ◌+◌, ◌-◌, Bool, List, ◌∷◌, ◌++◌, length, take, drop, position, Option, Some, None, refl, ap, ◌∙◌, append_assoc}
 use Rattle.std.proofs.lemmas.List.{take-append-drop}
 use Rattle.ixdtf_buffers.specs.Lines.{is_byte, newline}
-use Rattle.ixdtf_checks.specs.{Coloured.{coloured_hint, lines_with, marks_with, report_with}, Texts.{line_and_column, text_of}, Verdicts.{Refusal, hint_line}}
+use Rattle.ixdtf_checks.specs.{Coloured.{coloured_hint, coloured_of, lines_with, marks_with, report_with}, Texts.{line_and_column, text_of}, Verdicts.{Cause, Refusal, Tells, hint_line}}
+use Rattle.ixdtf_checks.specs.{declared.request.Format.TheVariants.Coloured, Reports.{IsHintIn, IsRefusalReport}}
 
 plain_marks : (place : Option ℕ) (marks : List ℕ) → marks_with (λ text. text) place marks ≡ marks
 plain_marks None marks = refl
@@ -27,3 +28,9 @@ plain_report name number refusal hint =
     (plain_lines (position (is_byte newline) refusal.lines) refusal.lines)
     ∙ ap (λ last. (name ++ line_and_column number refusal.column) ++ (refusal.message ++ newline ∷ (refusal.lines ++ last))) (plain_hint hint)
     ∙ append_assoc name (line_and_column number refusal.column) (refusal.message ++ newline ∷ (refusal.lines ++ hint_line hint))
+
+-- A report of a refused line is the report with colours of its refusal and of its hint.
+pub reported : {P : List ℕ → Type 0} (name : List ℕ) (number : ℕ) (hinted : Bool) (cause : Cause) (refusal : Refusal) (hint : Option (List ℕ))
+    → Tells cause refusal → IsHintIn hinted cause hint → P (coloured_of name number refusal hint)
+    → (report : List ℕ) × IsRefusalReport Coloured name number hinted cause report × P report
+reported name number hinted cause refusal hint tells is_hint holds = (_, (refusal, hint, tells, is_hint, refl), holds)

@@ -9,7 +9,6 @@ pub mod NameLemmas
 pub mod NumberLemmas
 pub mod PartsLemmas
 pub mod PointedLemmas
-pub mod ShownLemmas
 pub mod VerdictLemmas
 pub mod ReportLemmas
 pub mod SecondLemmas

@@ -1,6 +1,6 @@
 -- Proves where the fields of a line begin.
 use Rattle.std.proofs.Common.{◌≡◌, ℕ, zero, suc, ◌+◌, ◌-◌, ◌<◌, ◌≤◌, Bool, true, false, not, cond, ltb, List, [], ◌∷◌, length, take, drop, Option, Some, None, option_map, position, refl, sym, ap, ◌∙◌, arith, ⊎_elim}
-use Rattle.std.proofs.lemmas.{Bool.{cases_lt, lt-ltb, le-ltb}, List.Sums.sum_by-cons}
+use Rattle.std.proofs.lemmas.{Bool.{cases_lt, lt-ltb, le-ltb}, List.{Sums.sum_by-cons, take_all, length-drop}}
 use Rattle.std.specs.List.{count_by, position_or_len}
 use Rattle.ixdtf_buffers.specs.Lines.{is_byte}
 use Rattle.ixdtf_checks.specs.Parts.{field_start}
@@ -98,7 +98,9 @@ field_start-behind separator left (suc place) (x ∷ xs) some within =
         ∙ ap (option_map (λ more. 1 + more)) (ap (λ n. field_start separator n xs) f ∙ next)
         ∙ option_map-more 1 place (suc place) _ (omega arith)
 
-pub start_behind : (separator before left place : ℕ) (line : List ℕ) → 0 < left → place ≤ length line
-    → left + count_by (is_byte separator) (take place line) ≡ before
-    → field_start separator before line ≡ option_map (λ more. place + more) (field_start separator left (drop place line))
-start_behind separator before left place line some within passed = rw (← passed) (field_start-behind separator left place line some within)
+pub start_behind : (separator before left place : ℕ) (line : List ℕ) (found : Option ℕ) → 0 < left → place ≤ length line
+    → left + count_by (is_byte separator) (take place line) ≡ before → found ≡ field_start separator left (take (length line - place) (drop place line))
+    → option_map (λ more. place + more) found ≡ field_start separator before line
+start_behind separator before left place line found some within passed is =
+    let all : take (length line - place) (drop place line) ≡ drop place line = take_all (length line - place) (drop place line) (omega (arith, length-drop place line)) in
+    rw (is, all, ← passed) (sym (field_start-behind separator left place line some within))

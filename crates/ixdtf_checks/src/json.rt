@@ -15,8 +15,8 @@ ghost use Rattle.ixdtf_checks.specs.Seen.{seen_cause, seen_refusal};
 use crate::cause::Cause;
 use crate::explaining::{hint_of, name_of, refusal_of};
 use crate::refusal::Refusal;
-use crate::shown::{SHOWN_ROOM, add_two_digits, shown_bytes};
-use ixdtf::Message;
+use crate::shown::{SHOWN_ROOM, shown_bytes};
+use ixdtf::{Message, byte_digits};
 use ixdtf_buffers::adding::{add_bytes, add_number};
 use ixdtf_buffers::error::RunError;
 use ixdtf_buffers::output::Output;
@@ -160,6 +160,6 @@ fn put_control<K: Sink>(output: &mut Output<'_, K>, byte: u8) -> Result<(), RunE
 {
     let mut room = [0; SHOWN_ROOM];
     let digits = add_bytes(&mut room, 0, b"\\u00");
-    let end = add_two_digits(&mut room, digits, byte);
+    let end = add_bytes(&mut room, digits, &byte_digits(byte));
     output.put(&room[..end])
 }

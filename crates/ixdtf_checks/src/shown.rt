@@ -2,13 +2,12 @@
 //! what a message shows, such as `U+202F (narrow no-break space)` for a character, or `the byte 0xE9` for a byte.
 //!
 //! `Display` of [`Shown`] writes the same bytes. The program makes them without `core::fmt`, because that is faster.
-ghost use Rattle.std.specs.Prelude.{◌≡◌, ◌==◌, ◌<◌, ◌≤◌, ◌+◌, ◌∷◌, ◌++◌, [], true, length, codes, if◌then◌else◌};
-ghost use Rattle.std.specs.Fmt.{digits, digit_glyph};
+ghost use Rattle.std.specs.Prelude.{◌≡◌, ◌≤◌, ◌+◌, ◌∷◌, ◌++◌, codes};
 ghost use Rattle.ixdtf_grammar.specs.Messages.{message_text, shown_text, character_text, look_alike, hex_text};
 ghost use Rattle.ixdtf_buffers.specs.Adding.{Adds};
 ghost use Rattle.ixdtf_buffers.specs.Output.{Puts};
 
-use ixdtf::{Message, Shown};
+use ixdtf::{Message, Shown, byte_digits, character_digits, look_alike};
 use ixdtf_buffers::adding::{add_byte, add_bytes};
 use ixdtf_buffers::error::RunError;
 use ixdtf_buffers::output::Output;
@@ -98,8 +97,9 @@ fn add_named_number<const SIZE: usize>(room: &mut [u8; SIZE], at: usize, charact
     ensures text { Adds room.old room.new at result (codes "U+" ++ (hex_text 4 character ++ look_alike character)) }
 {
     let number = add_bytes(room, at, b"U+");
-    let name = add_number(room, number, u32::from(character));
-    add_bytes(room, name, look_alike(character))
+    let mut digits = [0; 6];
+    let name = add_bytes(room, number, character_digits(character, &mut digits));
+    add_bytes(room, name, look_alike(character).as_bytes())
 }
 
 /// Adds the value of a byte, such as `the byte 0xE9`. A message shows a byte if no character in UTF-8 begins at the position that the
@@ -112,69 +112,5 @@ pub fn add_byte_number<const SIZE: usize>(room: &mut [u8; SIZE], at: usize, byte
     ensures text { Adds room.old room.new at result (codes "the byte 0x" ++ hex_text 2 byte) }
 {
     let number = add_bytes(room, at, b"the byte 0x");
-    add_two_digits(room, number, byte)
-}
-
-/// Writes the number of a character in four to six hexadecimal digits, and returns the index after it.
-fn add_number<const SIZE: usize>(room: &mut [u8; SIZE], at: usize, number: u32) -> usize
-    requires number { number < 0x110000 }
-    requires room { at + 6 ≤ SIZE }
-    ensures place { result ≤ at + 6 }
-    ensures text { Adds room.old room.new at result (hex_text 4 number) }
-{
-    let last_four = add_first_digits(room, at, (number / 0x1_0000) as u8);
-    let last_two = add_two_digits(room, last_four, (number / 0x100 % 0x100) as u8);
-    add_two_digits(room, last_two, (number % 0x100) as u8)
-}
-
-/// Writes the hexadecimal digits before the last four digits of the number of a character, and returns the index after them.
-/// There are at most two such digits. If `number` is 0, there are none.
-fn add_first_digits<const SIZE: usize>(room: &mut [u8; SIZE], at: usize, number: u8) -> usize
-    requires { at + 2 ≤ SIZE }
-    ensures place { result ≤ at + 2 }
-    ensures text { Adds room.old room.new at result (if number == 0 then [] else digits 16 true number) }
-{
-    match number {
-        0 => at,
-        1..16 => add_byte(room, at, digit(number)),
-        _ => add_two_digits(room, at, number),
-    }
-}
-
-/// Writes the value of a byte in two hexadecimal digits, and returns the index after them.
-pub fn add_two_digits<const SIZE: usize>(room: &mut [u8; SIZE], at: usize, byte: u8) -> usize
-    requires { at + 2 ≤ SIZE }
-    ensures place { result ≡ at + 2 }
-    ensures text { Adds room.old room.new at result (hex_text 2 byte) }
-{
-    let last = add_byte(room, at, digit(byte / 16));
-    add_byte(room, last, digit(byte % 16))
-}
-
-/// Returns the upper-case hexadecimal digit of a number below 16.
-fn digit(number: u8) -> u8
-    requires { number < 16 }
-    ensures { result ≡ digit_glyph true number }
-{
-    if number < 10 {
-        b'0' + number
-    } else {
-        b'A' + (number - 10)
-    }
-}
-
-/// Returns the name of a character that looks like a space or a `-`, or with which some files begin.
-fn look_alike(character: char) -> &'static [u8]
-    ensures name { result.now ≡ look_alike character }
-    ensures short { length result.now ≤ 24 }
-{
-    match character {
-        '\u{a0}' => b" (no-break space)",
-        '\u{202f}' => b" (narrow no-break space)",
-        '\u{2010}' => b" (hyphen)",
-        '\u{2013}' => b" (en dash)",
-        '\u{2212}' => b" (minus sign)",
-        '\u{feff}' => b" (byte order mark)",
-        _ => b"",
-    }
+    add_bytes(room, number, &byte_digits(byte))
 }

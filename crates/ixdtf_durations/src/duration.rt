@@ -346,7 +346,7 @@ fn parse_times<'a, T: EncodingType>(
 
 /// Consumes the `P` or `p` after a sign, and returns the sign.
 #[inline(always)]
-#[tactic(auto, using(crate::proofs::code::DurationSteps::openings))]
+#[tactic(auto, using(crate::proofs::code::DurationSteps::openings, std::proofs::lemmas::Result::err_from_is_err_and))]
 fn parse_designator<'a, T: EncodingType>(
     cursor: &mut Cursor<'a, T>,
     sign: Sign,

@@ -1,2 +1,4 @@
 -- Lemmas that the proofs of functions use.
 pub mod Nanoseconds
+pub mod Numbers
+pub mod Pointed

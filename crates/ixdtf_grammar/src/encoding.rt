@@ -81,8 +81,8 @@ pub trait EncodingType: private::Sealed {
 
 /// The encoding of sources with 8-bit code units, such as UTF-8.
 ///
-/// Each code unit is a byte, and `get_ascii` returns this byte even if it is not ASCII. The readers refuse a text that contains the byte 0 or a byte
-/// of 127 or more. The readers do not check that the source is UTF-8.
+/// Each code unit is a byte, and `get_ascii` returns this byte even if it is not ASCII. The readers refuse a text that contains the
+/// byte 0 or a byte of 127 or more. The readers do not check that the source is UTF-8.
 #[derive(Clone, Copy, Debug, PartialEq, Eq, Hash)]
 pub struct Utf8;
 

@@ -29,13 +29,14 @@
 
 pub mod encoding;
 mod error;
+pub mod hexadecimal;
 mod hint;
 mod instants;
 mod located;
-mod message;
+pub mod message;
 pub mod packed;
-mod part;
-mod pointed;
+pub mod part;
+pub mod pointed;
 pub mod profile;
 mod reason;
 pub mod records;

@@ -1,6 +1,6 @@
 //! Messages that say what is wrong in a text that a reader refused.
 
-ghost use Rattle.std.specs.Prelude.{◌≡◌, ◌-◌, length, min, ◌++◌, codes};
+ghost use Rattle.std.specs.Prelude.{◌≡◌, ◌≤◌, ◌-◌, length, min, ◌++◌, codes};
 ghost use Rattle.std.specs.{Char.encode_utf8};
 ghost use Rattle.std.specs.Fmt.{WritesOnOk};
 ghost use Rattle.ixdtf_grammar.specs.Messages.{IsMessage, ShowsCharacter, ShowsText};
@@ -237,8 +237,9 @@ fn write_byte<W: fmt::Write>(f: &mut fmt::Formatter<W>, byte: u8) -> fmt::Result
 }
 
 /// Returns the name of a character that looks like a space or a `-`, or with which some files begin.
-fn look_alike(character: char) -> &'static str
-    ensures { result.now ≡ look_alike character }
+pub fn look_alike(character: char) -> &'static str
+    ensures name { result.now ≡ look_alike character }
+    ensures short { length result.now ≤ 24 }
 {
     match character {
         '\u{a0}' => " (no-break space)",

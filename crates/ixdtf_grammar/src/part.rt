@@ -1,9 +1,10 @@
 //! The part of a text that is wrong.
 
-ghost use Rattle.std.specs.Prelude.{◌≡◌, ◌≤◌, length, min};
+ghost use Rattle.std.specs.Prelude.{◌≡◌, ◌≤◌, length, map, min};
 ghost use Rattle.ixdtf_grammar.specs.Parts.{RunsBack, RunsOn, IsLastOpening, IsPart, extent_of, of_number, is_range};
-ghost use Rattle.ixdtf_grammar.specs.language.Letters.{digit};
+ghost use Rattle.ixdtf_grammar.specs.language.Letters.{digit, opening};
 
+use crate::encoding::{EncodingType, Utf8, Utf16};
 use crate::located::LocatedError;
 use crate::reason::Reason;
 
@@ -68,35 +69,65 @@ impl LocatedError {
         ensures part { IsPart (extent_of self.now.reason) text.now (min self.now.at (length text.now)) result }
         ensures within { (result.begin ≤ result.end) × (result.end ≤ length text.now) }
     {
-        let at = self.at.min(text.len());
-        let before = at.saturating_sub(1);
-        match extent_of(self.reason) {
-            Extent::Byte => WrongPart {
-                begin: at,
-                end: if at < text.len() { at + 1 } else { at },
-            },
-            Extent::TwoDigits => WrongPart {
-                begin: at.saturating_sub(2),
-                end: at,
-            },
-            Extent::Front => WrongPart { begin: 0, end: at },
-            Extent::Number => WrongPart {
-                begin: begin_of_number(text, at),
-                end: end_of_digits(text, at),
-            },
-            Extent::Group => WrongPart {
-                begin: begin_of_number(text, before),
-                end: at,
-            },
-            Extent::NumberBeforeUnit => WrongPart {
-                begin: begin_of_number(text, before),
-                end: before,
-            },
-            Extent::Bracket => WrongPart {
-                begin: begin_of_bracket(text, at),
-                end: at,
-            },
-        }
+        part_of::<Utf8>(self.reason, self.at, text)
+    }
+}
+
+/// An encoding whose code units have a value of type `u32`. The function `part_of` needs this value.
+pub trait Numbered: EncodingType {
+    /// Returns the value of a code unit.
+    fn number_of(unit: Self::CodeUnit) -> u32
+        ensures { result ≡ Self.number unit };
+}
+
+impl Numbered for Utf8 {
+    #[inline(always)]
+    fn number_of(byte: u8) -> u32 {
+        u32::from(byte)
+    }
+}
+
+impl Numbered for Utf16 {
+    #[inline(always)]
+    fn number_of(unit: u16) -> u32 {
+        u32::from(unit)
+    }
+}
+
+/// Returns the part of the text that is wrong. The position of the error is `place`, and its reason is `reason`.
+#[inline(always)]
+pub fn part_of<T: Numbered>(reason: Reason, place: usize, text: &[T::CodeUnit]) -> WrongPart
+    ensures part { IsPart (extent_of reason) (map T.number text.now) (min place (length text.now)) result }
+    ensures within { (result.begin ≤ result.end) × (result.end ≤ length text.now) }
+{
+    let at = place.min(text.len());
+    let before = at.saturating_sub(1);
+    match extent_of(reason) {
+        Extent::Byte => WrongPart {
+            begin: at,
+            end: if at < text.len() { at + 1 } else { at },
+        },
+        Extent::TwoDigits => WrongPart {
+            begin: at.saturating_sub(2),
+            end: at,
+        },
+        Extent::Front => WrongPart { begin: 0, end: at },
+        Extent::Number => WrongPart {
+            begin: begin_of_number::<T>(text, at),
+            end: end_of_digits::<T>(text, at),
+        },
+        Extent::Group => WrongPart {
+            begin: begin_of_number::<T>(text, before),
+            end: at,
+        },
+        Extent::NumberBeforeUnit => WrongPart {
+            begin: begin_of_number::<T>(text, before),
+            end: before,
+        },
+        Extent::Bracket => WrongPart {
+            begin: begin_of_bracket::<T>(text, at),
+            end: at,
+        },
     }
 }
 
@@ -149,22 +180,36 @@ fn is_range_of_two_digits(reason: Reason) -> bool
     )
 }
 
-/// Returns whether the byte can be in a number of a duration: a digit, `.` or `,`.
-fn is_of_number(byte: u8) -> bool
-    ensures { result ≡ of_number byte }
+/// Returns whether the value is that of a digit.
+fn is_digit(number: u32) -> bool
+    ensures { result ≡ digit number }
 {
-    byte.is_ascii_digit() || byte == b'.' || byte == b','
+    48 <= number && number <= 57
+}
+
+/// Returns whether a code unit with this value can be part of a number in a duration. Such a code unit is a digit, `.` or `,`.
+fn is_of_number(number: u32) -> bool
+    ensures { result ≡ of_number number }
+{
+    is_digit(number) || number == 46 || number == 44
+}
+
+/// Returns whether the value is that of `[`.
+fn is_opening(number: u32) -> bool
+    ensures { result ≡ opening number }
+{
+    number == 91
 }
 
 /// Returns the index at which the number begins that ends before `end`. The number can have a fraction.
 #[inline(always)]
-fn begin_of_number(text: &[u8], end: usize) -> usize
+fn begin_of_number<T: Numbered>(text: &[T::CodeUnit], end: usize) -> usize
     requires { end ≤ length text.now }
-    ensures run { RunsBack of_number text.now result end }
+    ensures run { RunsBack of_number (map T.number text.now) result end }
 {
     let mut front = &text[..end];
     while let [before @ .., last] = front {
-        if !is_of_number(*last) {
+        if !is_of_number(T::number_of(*last)) {
             return front.len();
         }
         front = before;
@@ -172,13 +217,13 @@ fn begin_of_number(text: &[u8], end: usize) -> usize
     0
 }
 
-/// Returns the index of the first byte from `start` on that is not a digit. Returns the length of the text if there is none.
-fn end_of_digits(text: &[u8], start: usize) -> usize
+/// Returns the index of the first code unit from `start` on that is not a digit. Returns the length of the text if there is none.
+fn end_of_digits<T: Numbered>(text: &[T::CodeUnit], start: usize) -> usize
     requires { start ≤ length text.now }
-    ensures run { RunsOn digit text.now start result }
+    ensures run { RunsOn digit (map T.number text.now) start result }
 {
     let mut end = start;
-    while end < text.len() && text[end].is_ascii_digit() {
+    while end < text.len() && is_digit(T::number_of(text[end])) {
         end += 1;
     }
     end
@@ -186,13 +231,13 @@ fn end_of_digits(text: &[u8], start: usize) -> usize
 
 /// Returns the index of the last `[` before `end`, or 0 if there is none.
 #[inline(always)]
-fn begin_of_bracket(text: &[u8], end: usize) -> usize
+fn begin_of_bracket<T: Numbered>(text: &[T::CodeUnit], end: usize) -> usize
     requires { end ≤ length text.now }
-    ensures bracket { IsLastOpening text.now result end }
+    ensures bracket { IsLastOpening (map T.number text.now) result end }
 {
     let mut front = &text[..end];
     while let [before @ .., last] = front {
-        if *last == b'[' {
+        if is_opening(T::number_of(*last)) {
             return before.len();
         }
         front = before;

@@ -15,7 +15,7 @@ mod worked;
 use ixdtf::parsers::Profile;
 use ixdtf_checks::checker::check;
 use ixdtf_checks::kind::Kind;
-use ixdtf_checks::request::{Format, Request, Task};
+use ixdtf_checks::request::{Extent, Field, Format, Request, Task};
 use std::alloc::Global;
 use std::process::Abort;
 use std::test::Fail;
@@ -31,6 +31,53 @@ const DATE_TIMES: Request<'static> = Request {
     format: Format::Text,
     is_quiet: false,
 };
+
+/// The second field of a line. There are commas between the fields.
+const SECOND_FIELD: Field = Field {
+    before: 1,
+    separator: b',',
+    extent: Extent::One,
+};
+
+/// The second field of a record of RFC 4180.
+const SECOND_OF_RECORD: Field = Field {
+    extent: Extent::Csv,
+    ..SECOND_FIELD
+};
+
+/// Returns a request that checks texts of the kind under the profile.
+fn asked_of(kind: Kind, profile: Profile) -> Request<'static> {
+    Request {
+        task: Task::Check(kind),
+        profile,
+        ..DATE_TIMES
+    }
+}
+
+/// Asserts that a check of one line writes the report. If the report is empty, the line is accepted, and otherwise it is refused.
+fn check_line(
+    rt: &impl Abort,
+    alloc: Global,
+    request: &Request<'_>,
+    line: &[u8],
+    report: &str,
+) -> Result<(), Fail> {
+    let refused = u64::from(!report.is_empty());
+    check_written(rt, alloc, request, line, report.as_bytes(), (1, refused))
+}
+
+/// Each row has a kind, a text and a report. Asserts that a check of the text, as a text of this kind, writes this report.
+fn check_kinds(
+    rt: &impl Abort,
+    alloc: Global,
+    rows: &[(Kind, &'static str, &'static str)],
+) -> Result<(), Fail> {
+    for (kind, text, report) in rows {
+        let request = asked_of(*kind, Profile::Crate);
+        check_line(rt, alloc, &request, text.as_bytes(), report)?;
+    }
+    Ok(())
+}
 
 /// Asserts that a check of the input writes the bytes, and nothing to the second output, and that it counts all bytes of the input.
 /// `counts` has the number of lines, and the number of refused lines.

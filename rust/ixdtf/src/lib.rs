@@ -17,6 +17,7 @@ mod display;
 pub mod encoding;
 mod error;
 mod error_code;
+mod hexadecimal;
 mod hint;
 mod instant;
 mod instants;
@@ -31,6 +32,20 @@ pub mod records;
 mod stop;
 mod wording;
 
+// These items are `pub` because other crates of this repository use them. They are not part of the interface for callers.
+#[doc(hidden)]
+pub use crate::hexadecimal::{byte_digits, character_digits};
+// This item is `pub` because other crates of this repository use it. It is not part of the interface for callers.
+#[doc(hidden)]
+pub use crate::message::look_alike;
+// These items are `pub` because other crates of this repository use them. They are not part of the interface for callers.
+#[doc(hidden)]
+pub use crate::part::{Numbered, part_of};
+// These items are `pub` because other crates of this repository use them. They are not part of the interface for callers.
+#[doc(hidden)]
+pub use crate::pointed::{
+    BEFORE_PLACE, FROM_PLACE, column_of, cut_mark, indent_of, marks_of,
+};
 pub use error::ParseError;
 pub use instant::Instant;
 pub use located::LocatedError;

@@ -206,7 +206,7 @@ fn write_byte(f: &mut fmt::Formatter<'_>, byte: u8) -> fmt::Result {
 }
 
 /// Returns the name of a character that looks like a space or a `-`, or with which some files begin.
-fn look_alike(character: char) -> &'static str {
+pub fn look_alike(character: char) -> &'static str {
     match character {
         '\u{a0}' => " (no-break space)",
         '\u{202f}' => " (narrow no-break space)",

@@ -2,6 +2,7 @@
 
 //! The part of a text that is wrong.
 
+use crate::encoding::{EncodingType, Utf8, Utf16};
 use crate::located::LocatedError;
 use crate::reason::Reason;
 
@@ -63,35 +64,61 @@ impl LocatedError {
     /// assert_eq!(error.part_in(text.as_bytes()), WrongPart { begin: 5, end: 7 });
     /// ```
     pub fn part_in(&self, text: &[u8]) -> WrongPart {
-        let at = self.at.min(text.len());
-        let before = at.saturating_sub(1);
-        match extent_of(self.reason) {
-            Extent::Byte => WrongPart {
-                begin: at,
-                end: if at < text.len() { at + 1 } else { at },
-            },
-            Extent::TwoDigits => WrongPart {
-                begin: at.saturating_sub(2),
-                end: at,
-            },
-            Extent::Front => WrongPart { begin: 0, end: at },
-            Extent::Number => WrongPart {
-                begin: begin_of_number(text, at),
-                end: end_of_digits(text, at),
-            },
-            Extent::Group => WrongPart {
-                begin: begin_of_number(text, before),
-                end: at,
-            },
-            Extent::NumberBeforeUnit => WrongPart {
-                begin: begin_of_number(text, before),
-                end: before,
-            },
-            Extent::Bracket => WrongPart {
-                begin: begin_of_bracket(text, at),
-                end: at,
-            },
-        }
+        part_of::<Utf8>(self.reason, self.at, text)
+    }
+}
+
+/// An encoding whose code units have a value of type `u32`. The function `part_of` needs this value.
+pub trait Numbered: EncodingType {
+    /// Returns the value of a code unit.
+    fn number_of(unit: Self::CodeUnit) -> u32;
+}
+
+impl Numbered for Utf8 {
+    #[inline(always)]
+    fn number_of(byte: u8) -> u32 {
+        u32::from(byte)
+    }
+}
+
+impl Numbered for Utf16 {
+    #[inline(always)]
+    fn number_of(unit: u16) -> u32 {
+        u32::from(unit)
+    }
+}
+
+/// Returns the part of the text that is wrong. The position of the error is `place`, and its reason is `reason`.
+#[inline(always)]
+pub fn part_of<T: Numbered>(reason: Reason, place: usize, text: &[T::CodeUnit]) -> WrongPart {
+    let at = place.min(text.len());
+    let before = at.saturating_sub(1);
+    match extent_of(reason) {
+        Extent::Byte => WrongPart {
+            begin: at,
+            end: if at < text.len() { at + 1 } else { at },
+        },
+        Extent::TwoDigits => WrongPart {
+            begin: at.saturating_sub(2),
+            end: at,
+        },
+        Extent::Front => WrongPart { begin: 0, end: at },
+        Extent::Number => WrongPart {
+            begin: begin_of_number::<T>(text, at),
+            end: end_of_digits::<T>(text, at),
+        },
+        Extent::Group => WrongPart {
+            begin: begin_of_number::<T>(text, before),
+            end: at,
+        },
+        Extent::NumberBeforeUnit => WrongPart {
+            begin: begin_of_number::<T>(text, before),
+            end: before,
+        },
+        Extent::Bracket => WrongPart {
+            begin: begin_of_bracket::<T>(text, at),
+            end: at,
+        },
     }
 }
 
@@ -140,17 +167,27 @@ fn is_range_of_two_digits(reason: Reason) -> bool {
     )
 }
 
-/// Returns whether the byte can be in a number of a duration: a digit, `.` or `,`.
-fn is_of_number(byte: u8) -> bool {
-    byte.is_ascii_digit() || byte == b'.' || byte == b','
+/// Returns whether the value is that of a digit.
+fn is_digit(number: u32) -> bool {
+    48 <= number && number <= 57
+}
+
+/// Returns whether a code unit with this value can be part of a number in a duration. Such a code unit is a digit, `.` or `,`.
+fn is_of_number(number: u32) -> bool {
+    is_digit(number) || number == 46 || number == 44
+}
+
+/// Returns whether the value is that of `[`.
+fn is_opening(number: u32) -> bool {
+    number == 91
 }
 
 /// Returns the index at which the number begins that ends before `end`. The number can have a fraction.
 #[inline(always)]
-fn begin_of_number(text: &[u8], end: usize) -> usize {
+fn begin_of_number<T: Numbered>(text: &[T::CodeUnit], end: usize) -> usize {
     let mut front = &text[..end];
     while let [before @ .., last] = front {
-        if !is_of_number(*last) {
+        if !is_of_number(T::number_of(*last)) {
             return front.len();
         }
         front = before;
@@ -158,10 +195,10 @@ fn begin_of_number(text: &[u8], end: usize) -> usize {
     0
 }
 
-/// Returns the index of the first byte from `start` on that is not a digit. Returns the length of the text if there is none.
-fn end_of_digits(text: &[u8], start: usize) -> usize {
+/// Returns the index of the first code unit from `start` on that is not a digit. Returns the length of the text if there is none.
+fn end_of_digits<T: Numbered>(text: &[T::CodeUnit], start: usize) -> usize {
     let mut end = start;
-    while end < text.len() && text[end].is_ascii_digit() {
+    while end < text.len() && is_digit(T::number_of(text[end])) {
         end += 1;
     }
     end
@@ -169,10 +206,10 @@ fn end_of_digits(text: &[u8], start: usize) -> usize {
 
 /// Returns the index of the last `[` before `end`, or 0 if there is none.
 #[inline(always)]
-fn begin_of_bracket(text: &[u8], end: usize) -> usize {
+fn begin_of_bracket<T: Numbered>(text: &[T::CodeUnit], end: usize) -> usize {
     let mut front = &text[..end];
     while let [before @ .., last] = front {
-        if *last == b'[' {
+        if is_opening(T::number_of(*last)) {
             return before.len();
         }
         front = before;

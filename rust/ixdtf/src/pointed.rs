@@ -6,10 +6,10 @@ use crate::part::WrongPart;
 use core::fmt;
 
 /// The greatest number of characters that are written before the marks.
-const BEFORE_PLACE: usize = 48;
+pub const BEFORE_PLACE: usize = 48;
 
 /// The greatest number of characters that are written from the first mark on, and the greatest number of marks.
-const FROM_PLACE: usize = 24;
+pub const FROM_PLACE: usize = 24;
 
 /// A text with marks under the part that is wrong. [`LocatedError::in_text`](crate::LocatedError::in_text) and
 /// [`LocatedError::in_bytes`](crate::LocatedError::in_bytes) return it.
@@ -61,7 +61,7 @@ impl<'a> fmt::Display for PointedText<'a> {
 }
 
 /// Returns the number of complete characters in the first `at` bytes of the text.
-fn column_of(text: &str, at: usize) -> usize {
+pub fn column_of(text: &str, at: usize) -> usize {
     let mut column = 0;
     let mut left = at;
     for character in text.chars() {
@@ -76,7 +76,7 @@ fn column_of(text: &str, at: usize) -> usize {
 }
 
 /// Returns the number of columns of the first line that are before the position.
-fn indent_of(column: usize) -> usize {
+pub fn indent_of(column: usize) -> usize {
     if BEFORE_PLACE < column {
         BEFORE_PLACE + 2
     } else {
@@ -85,7 +85,7 @@ fn indent_of(column: usize) -> usize {
 }
 
 /// Returns the number of marks under a part.
-fn marks_of(part: WrongPart) -> usize {
+pub fn marks_of(part: WrongPart) -> usize {
     if part.end <= part.begin {
         return 1;
     }
@@ -93,7 +93,7 @@ fn marks_of(part: WrongPart) -> usize {
 }
 
 /// Returns `..` if something is cut, and otherwise the empty string.
-fn cut_mark(is_cut: bool) -> &'static str {
+pub fn cut_mark(is_cut: bool) -> &'static str {
     if is_cut { ".." } else { "" }
 }
 

@@ -351,49 +351,22 @@ impl<'a, T: EncodingType> Parsers<'a, T> {
 
     // Returns the error of the reader, or `None` if it accepts the text.
     fn refusal(&mut self, reader: Reader) -> Option<ParseError> {
-        match self.read(reader) {
-            Ok(_found) => None,
-            Err(error) => Some(error),
-        }
+        self.read(reader).err()
     }
 
     // Returns the error of the `*_located` variant with its position, or `None` if it accepts the text.
     fn located_refusal(&mut self, reader: Reader) -> Option<LocatedError> {
-        let parts = match reader {
-            Reader::Parse => self.dates.parse_located(),
-            Reader::YearMonth => self.dates.parse_year_month_located(),
-            Reader::MonthDay => self.dates.parse_month_day_located(),
-            Reader::Time => self.dates.parse_time_located(),
-            Reader::Rfc3339 => self.dates.parse_rfc3339_located(),
-            Reader::Rfc9557 => self.dates.parse_rfc9557_located(),
-            Reader::Offset => {
-                return match self.zones.parse_offset_located() {
-                    Ok(_found) => None,
-                    Err(error) => Some(error),
-                };
-            }
-            Reader::Identifier => {
-                return match self.zones.parse_identifier_located() {
-                    Ok(_found) => None,
-                    Err(error) => Some(error),
-                };
-            }
-            Reader::IanaIdentifier => {
-                return match self.zones.parse_iana_identifier_located() {
-                    Ok(_found) => None,
-                    Err(error) => Some(error),
-                };
-            }
-            Reader::Duration => {
-                return match self.durations.parse_located() {
-                    Ok(_found) => None,
-                    Err(error) => Some(error),
-                };
-            }
-        };
-        match parts {
-            Ok(_found) => None,
-            Err(error) => Some(error),
+        match reader {
+            Reader::Parse => self.dates.parse_located().err(),
+            Reader::YearMonth => self.dates.parse_year_month_located().err(),
+            Reader::MonthDay => self.dates.parse_month_day_located().err(),
+            Reader::Time => self.dates.parse_time_located().err(),
+            Reader::Rfc3339 => self.dates.parse_rfc3339_located().err(),
+            Reader::Rfc9557 => self.dates.parse_rfc9557_located().err(),
+            Reader::Offset => self.zones.parse_offset_located().err(),
+            Reader::Identifier => self.zones.parse_identifier_located().err(),
+            Reader::IanaIdentifier => self.zones.parse_iana_identifier_located().err(),
+            Reader::Duration => self.durations.parse_located().err(),
         }
     }
 
@@ -490,6 +463,15 @@ fn check_found(
 ) {
     let is_found = Parsers::from_str(text).read(reader) == *wanted;
     check_reader(rt, reader, text, is_found);
+}
+
+/// Asserts that the reader accepts each text. Also asserts that its record is equal to the record that `IxdtfParser::parse` returns.
+fn check_read_alike(rt: &impl Abort, reader: Reader, texts: &[&'static str]) {
+    for text in texts {
+        let read = Parsers::from_str(text).read(reader);
+        let is_same = read.is_ok() && read == Parsers::from_str(text).read(Reader::Parse);
+        check_reader(rt, reader, text, is_same);
+    }
 }
 
 /// Asserts that `IxdtfParser::parse` returns `wanted` for the text. If it returns a record, the record is also printed and read

@@ -6,9 +6,8 @@ use crate::asked::reader_by_number;
 use crate::errors::number_and_location;
 use crate::reasons::number_of;
 use crate::refusals::refusal;
-use crate::wide_parts::part_of;
-use ixdtf::encoding::{EncodingType, Utf8, Utf16};
-use ixdtf::{LocatedError, WrongPart};
+use ixdtf::encoding::{Utf8, Utf16};
+use ixdtf::{LocatedError, Numbered, part_of};
 
 /// Why a reader refuses a text, and where.
 #[derive(Clone, Copy)]
@@ -26,30 +25,10 @@ pub struct Explanation {
     pub reason: u32,
 }
 
-/// An encoding of the texts whose errors are explained.
-pub trait Explained: EncodingType + Sized {
-    /// Returns the part of the text that is wrong. `text` must be the complete text that was refused with the error.
-    fn part_in(error: &LocatedError, text: &[Self::CodeUnit]) -> WrongPart;
-}
-
-impl Explained for Utf8 {
-    #[inline(always)]
-    fn part_in(error: &LocatedError, text: &[u8]) -> WrongPart {
-        error.part_in(text)
-    }
-}
-
-impl Explained for Utf16 {
-    #[inline(always)]
-    fn part_in(error: &LocatedError, text: &[u16]) -> WrongPart {
-        part_of(error.reason, error.at, text)
-    }
-}
-
 /// Explains an error.
-fn explanation_of<T: Explained>(error: &LocatedError, text: &[T::CodeUnit]) -> Explanation {
+fn explanation_of<T: Numbered>(error: &LocatedError, text: &[T::CodeUnit]) -> Explanation {
     let (number, _) = number_and_location(error.error);
-    let part = T::part_in(error, text);
+    let part = part_of::<T>(error.reason, error.at, text);
     Explanation {
         place: error.at,
         begin: part.begin,
@@ -62,7 +41,7 @@ fn explanation_of<T: Explained>(error: &LocatedError, text: &[T::CodeUnit]) -> E
 /// Reads a text with the reader that has the number. Writes why this reader refuses the text. If it accepts the text, writes 0 to
 /// each field. Returns what the reader returns, or 105 if no reader has the number. Then nothing is written.
 #[inline(always)]
-fn explain_into<T: Explained>(number: u32, text: &[T::CodeUnit], out: &mut Explanation) -> u32 {
+fn explain_into<T: Numbered>(number: u32, text: &[T::CodeUnit], out: &mut Explanation) -> u32 {
     let Some(reader) = reader_by_number(number) else {
         return 105;
     };

@@ -47,7 +47,6 @@ mod texts;
 mod version;
 pub mod wide;
 mod wide_annotations;
-mod wide_parts;
 mod wide_printers;
 mod widths;
 

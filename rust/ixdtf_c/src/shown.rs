@@ -6,7 +6,7 @@
 //! succeeds. The functions of this file always succeed.
 
 use crate::adding::add;
-use ixdtf::{Message, Shown};
+use ixdtf::{Message, Shown, byte_digits, character_digits, look_alike};
 
 /// Adds a message.
 pub fn add_message(out: &mut [u8], at: usize, message: &Message<'_>) -> usize {
@@ -41,56 +41,13 @@ fn add_character(out: &mut [u8], at: usize, character: char) -> usize {
 /// Adds the number of the character, and its name if people confuse it with another character.
 fn add_number(out: &mut [u8], at: usize, character: char) -> usize {
     let number = add(out, at, b"U+");
-    let name = add_digits(out, number, u32::from(character));
-    add(out, name, look_alike(character))
+    let mut room = [0; 6];
+    let name = add(out, number, character_digits(character, &mut room));
+    add(out, name, look_alike(character).as_bytes())
 }
 
 /// Adds the number of a byte with which no character begins.
 fn add_byte(out: &mut [u8], at: usize, byte: u8) -> usize {
     let number = add(out, at, b"the byte 0x");
-    add_two_digits(out, number, byte)
-}
-
-/// Adds the number of a character in four to six hexadecimal digits.
-fn add_digits(out: &mut [u8], at: usize, number: u32) -> usize {
-    let last_four = add_first_digits(out, at, (number / 0x1_0000) as u8);
-    let last_two = add_two_digits(out, last_four, (number / 0x100 % 0x100) as u8);
-    add_two_digits(out, last_two, (number % 0x100) as u8)
-}
-
-/// Adds the hexadecimal digits before the last four digits of the number of a character. There are at most two such digits. If
-/// `number` is 0, there are none.
-fn add_first_digits(out: &mut [u8], at: usize, number: u8) -> usize {
-    match number {
-        0 => at,
-        1..16 => add(out, at, &[digit(number)]),
-        _ => add_two_digits(out, at, number),
-    }
-}
-
-/// Adds the number of a byte in two hexadecimal digits.
-fn add_two_digits(out: &mut [u8], at: usize, byte: u8) -> usize {
-    add(out, at, &[digit(byte / 16), digit(byte % 16)])
-}
-
-/// Returns the upper-case hexadecimal digit of a number below 16.
-fn digit(number: u8) -> u8 {
-    if number < 10 {
-        b'0' + number
-    } else {
-        b'A' + (number - 10)
-    }
-}
-
-/// Returns the name of a character that looks like a space or a `-`, or with which some files begin.
-fn look_alike(character: char) -> &'static [u8] {
-    match character {
-        '\u{a0}' => b" (no-break space)",
-        '\u{202f}' => b" (narrow no-break space)",
-        '\u{2010}' => b" (hyphen)",
-        '\u{2013}' => b" (en dash)",
-        '\u{2212}' => b" (minus sign)",
-        '\u{feff}' => b" (byte order mark)",
-        _ => b"",
-    }
+    add(out, number, &byte_digits(byte))
 }

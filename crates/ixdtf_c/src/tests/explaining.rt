@@ -1,6 +1,6 @@
 //! Tests of the functions that explain an error.
 
-use super::wide::units_of;
+use super::wide::Units;
 use crate::errors::Text;
 use crate::explaining::{Explanation, ixdtf_explain, ixdtf16_explain};
 use crate::reasons::ixdtf_reason_line;
@@ -60,9 +60,9 @@ fn explains_errors(rt: HostRuntime) {
         assert_eq!(rt; ixdtf_explain(reader, text, &mut narrow), wanted.0);
         assert_eq!(rt; fields(&narrow), wanted);
         let mut wide = EXPLANATION;
-        let units = units_of(text);
+        let units = Units::of(text);
         assert_eq!(rt;
-            ixdtf16_explain(reader, &units[..text.len().min(64)], &mut wide),
+            ixdtf16_explain(reader, units.as_slice(), &mut wide),
             wanted.0
         );
         assert_eq!(rt; fields(&wide), wanted);

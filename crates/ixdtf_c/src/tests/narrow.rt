@@ -1,7 +1,8 @@
 //! Tests of the functions for 8-bit text.
 
 use super::rows::{
-    Call, DATE, DURATION, DURATION_ROWS, LIST_ROWS, ListCall, OFFSET, REPLY_ROWS, ROWS, TIME,
+    Call, DATE, DURATION, DURATION_ROWS, LIST_ROWS, Lasting, ListCall, Listed, OFFSET, REPLY_ROWS,
+    ROWS, TIME, Written,
 };
 use crate::exports::*;
 use crate::narrow::{Annotation, Calendar, Record, Zone};
@@ -33,9 +34,11 @@ const ANNOTATION: Annotation<'static> = Annotation {
     is_critical: false,
 };
 
-/// Calls the reader that `call` names.
-fn call<'a>(call: Call, text: &'a [u8], out: &mut Record<'a>) -> u32 {
-    match call {
+/// Passes the 8-bit text to the reader, and returns what the reader returned and wrote.
+fn read(call: Call, text: &[u8]) -> Written {
+    let mut record = RECORD;
+    let out = &mut record;
+    let number = match call {
         Call::Parse => ixdtf_parse(text, out),
         Call::YearMonth => ixdtf_parse_year_month(text, out),
         Call::MonthDay => ixdtf_parse_month_day(text, out),
@@ -47,82 +50,70 @@ fn call<'a>(call: Call, text: &'a [u8], out: &mut Record<'a>) -> u32 {
         Call::Offset => ixdtf_parse_offset(text, out),
         Call::Identifier => ixdtf_parse_identifier(text, out),
         Call::IanaIdentifier => ixdtf_parse_iana_identifier(text, out),
+    };
+    let forms = (record.date, record.time, record.offset);
+    let zone = (record.zone.form, record.zone.hour, record.zone.name.len());
+    let others = (record.calendar.len(), record.location.len(), record.place);
+    Written::of(number, forms, zone, others)
+}
+
+/// Passes the 8-bit text to the reader that lists annotations, and returns what the reader returned and wrote.
+fn list(call: ListCall, text: &[u8]) -> Listed {
+    let mut record = RECORD;
+    let mut annotations = [ANNOTATION, ANNOTATION];
+    let mut count = 9;
+    let (slots, found, out) = (&mut annotations, &mut count, &mut record);
+    let number = match call {
+        ListCall::Parse => ixdtf_parse_with_annotations(text, slots, found, out),
+        ListCall::YearMonth => ixdtf_parse_year_month_with_annotations(text, slots, found, out),
+        ListCall::MonthDay => ixdtf_parse_month_day_with_annotations(text, slots, found, out),
+        ListCall::Time => ixdtf_parse_time_with_annotations(text, slots, found, out),
+        ListCall::Rfc9557 => ixdtf_parse_rfc9557_with_annotations(text, slots, found, out),
+        ListCall::MonthDayStrict => {
+            ixdtf_parse_month_day_with_annotations_strict(text, slots, found, out)
+        }
+        ListCall::TimeStrict => ixdtf_parse_time_with_annotations_strict(text, slots, found, out),
+    };
+    let second = annotations[1];
+    Listed {
+        outcome: (number, record.place),
+        count,
+        second: (second.is_critical, second.key.len(), second.value.len()),
     }
 }
 
-/// Calls the reader that `call` names. This reader lists annotations.
-fn list<'a>(
-    call: ListCall,
-    text: &'a [u8],
-    slots: &mut [Annotation<'a>],
-    count: &mut usize,
-    out: &mut Record<'a>,
-) -> u32 {
-    match call {
-        ListCall::Parse => ixdtf_parse_with_annotations(text, slots, count, out),
-        ListCall::YearMonth => ixdtf_parse_year_month_with_annotations(text, slots, count, out),
-        ListCall::MonthDay => ixdtf_parse_month_day_with_annotations(text, slots, count, out),
-        ListCall::MonthDayStrict => {
-            ixdtf_parse_month_day_with_annotations_strict(text, slots, count, out)
-        }
-        ListCall::Time => ixdtf_parse_time_with_annotations(text, slots, count, out),
-        ListCall::TimeStrict => ixdtf_parse_time_with_annotations_strict(text, slots, count, out),
-        ListCall::Rfc9557 => ixdtf_parse_rfc9557_with_annotations(text, slots, count, out),
-    }
+/// Passes the 8-bit text to the reader of durations, and returns what the reader returned and wrote.
+fn read_duration(is_strict: bool, text: &[u8]) -> Lasting {
+    let mut out = DURATION;
+    let number = if is_strict {
+        ixdtf_parse_duration_strict(text, &mut out)
+    } else {
+        ixdtf_parse_duration(text, &mut out)
+    };
+    Lasting::of(number, &out)
 }
 
 #[test]
 fn reads_texts(rt: HostRuntime) {
-    for row in ROWS {
-        let mut record = RECORD;
-        assert_eq!(rt; call(row.call, row.text, &mut record), row.number);
-        let date = record.date;
-        assert_eq!(rt; (date.year, date.month, date.day), row.date);
-        let time = record.time;
-        assert_eq!(rt; (time.hour, time.minute, time.fraction), row.time);
-        let offset = record.offset;
-        assert_eq!(rt; (offset.form, offset.hour, offset.second), row.offset);
-        let zone = record.zone;
-        assert_eq!(rt; (zone.form, zone.hour, zone.name.len()), row.zone);
-        assert_eq!(rt;
-            (record.calendar.len(), record.location.len(), record.place),
-            row.others
-        );
+    for (call, text, wanted) in ROWS {
+        let written = read(call, text);
+        assert_eq!(rt; written, wanted, "at {text:?}");
     }
 }
 
 #[test]
 fn lists_annotations(rt: HostRuntime) {
-    for row in LIST_ROWS {
-        let mut record = RECORD;
-        let mut slots = [ANNOTATION, ANNOTATION];
-        let mut count = 9;
-        let number = list(row.call, row.text, &mut slots, &mut count, &mut record);
-        assert_eq!(rt; (number, record.place), row.outcome);
-        assert_eq!(rt; count, row.count);
-        let second = slots[1];
-        assert_eq!(rt;
-            (second.is_critical, second.key.len(), second.value.len()),
-            row.second
-        );
+    for (call, text, wanted) in LIST_ROWS {
+        let listed = list(call, text);
+        assert_eq!(rt; listed, wanted, "at {text:?}");
     }
 }
 
 #[test]
 fn reads_durations(rt: HostRuntime) {
-    for row in DURATION_ROWS {
-        let mut out = DURATION;
-        let number = if row.is_strict {
-            ixdtf_parse_duration_strict(row.text, &mut out)
-        } else {
-            ixdtf_parse_duration(row.text, &mut out)
-        };
-        assert_eq!(rt; (number, out.place), row.outcome);
-        assert_eq!(rt; (out.is_negative, out.years, out.weeks, out.days), row.date);
-        assert_eq!(rt;
-            (out.time_form, out.hours, out.minutes, out.fraction),
-            row.time
-        );
+    for (is_strict, text, wanted) in DURATION_ROWS {
+        let written = read_duration(is_strict, text);
+        assert_eq!(rt; written, wanted, "at {text:?}");
     }
 }
 

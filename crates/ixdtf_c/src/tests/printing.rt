@@ -2,7 +2,7 @@
 
 use super::narrow::RECORD;
 use super::rows::DURATION;
-use super::wide::{self, units_of};
+use super::wide::{self, Units};
 use crate::exports::{
     ixdtf_parse, ixdtf_parse_duration, ixdtf_parse_identifier, ixdtf_parse_month_day,
     ixdtf_parse_offset, ixdtf_parse_time, ixdtf_parse_year_month, ixdtf16_parse,
@@ -255,12 +255,9 @@ const CANONICAL_NAMED: &[u8] = b"2024-03-02T08:48:00Z[Europe/Paris][u-ca=hebrew]
 
 #[test]
 fn prints_16_bit_code_units(rt: HostRuntime) {
-    let units = units_of(NAMED);
+    let text = Units::of(NAMED);
     let mut record = wide::RECORD;
-    assert_eq!(rt;
-        ixdtf16_parse(&units[..NAMED.len().min(64)], &mut record),
-        0
-    );
+    assert_eq!(rt; ixdtf16_parse(text.as_slice(), &mut record), 0);
     assert_eq!(rt; ixdtf16_printed_length(&record), 47);
     let mut out = [0; 64];
     let mut count = 9;
@@ -268,5 +265,5 @@ fn prints_16_bit_code_units(rt: HostRuntime) {
     assert_eq!(rt; (count, out[0]), (47, 0));
     assert_eq!(rt; ixdtf16_print(&record, &mut out, &mut count), 0);
     assert_eq!(rt; count, 47);
-    assert_eq!(rt; out, units_of(CANONICAL_NAMED));
+    assert_eq!(rt; out, Units::of(CANONICAL_NAMED).units);
 }

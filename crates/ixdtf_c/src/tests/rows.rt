@@ -19,12 +19,10 @@ pub(super) enum Call {
     IanaIdentifier,
 }
 
-/// A text, and what a reader returns and writes for it. Before the call, no field of the record is 0, false or empty.
-#[derive(Clone, Copy)]
-pub(super) struct Row {
-    pub call: Call,
-    pub text: &'static [u8],
-    /// The number that the function returns.
+/// What a reader returned, and what it wrote to a record. Before the call, no field of the record is 0, false or empty.
+#[derive(Clone, Copy, Debug, PartialEq)]
+pub(super) struct Written {
+    /// The number that the function returned.
     pub number: u32,
     /// The year, the month and the day.
     pub date: (i32, u8, u8),
@@ -37,6 +35,36 @@ pub(super) struct Row {
     /// The lengths of the calendar and of the location, and the position of the error.
     pub others: (usize, usize, usize),
 }
+
+impl Written {
+    /// Creates a `Written` from the number that a function returned and from what it wrote. `zone` and `others` are stored
+    /// unchanged.
+    pub(super) fn of(
+        number: u32,
+        (date, time, offset): (Date, Time, Offset),
+        zone: (u8, u8, usize),
+        others: (usize, usize, usize),
+    ) -> Written {
+        Written {
+            number,
+            date: (date.year, date.month, date.day),
+            time: (time.hour, time.minute, time.fraction),
+            offset: (offset.form, offset.hour, offset.second),
+            zone,
+            others,
+        }
+    }
+}
+
+/// The result of a reader that accepts a text and writes 0, false or empty to every field. The rows of the tables change some of
+/// these fields.
+#[rattlefmt::skip]
+const NOTHING: Written = Written { number: 0, date: (0, 0, 0), time: (0, 0, 0), offset: (0, 0, 0), zone: (0, 0, 0), others: (0, 0, 0) };
+
+/// The fields of a record before the call, except for the location and the position of the error. If a text is refused, only
+/// these two are written.
+#[rattlefmt::skip]
+const UNCHANGED: Written = Written { date: (1, 1, 1), time: (1, 1, 1), offset: (3, 1, 1), zone: (2, 1, 1), others: (1, 0, 0), ..NOTHING };
 
 /// A date in which no field is 0 or false.
 pub(super) const DATE: Date = Date {
@@ -67,207 +95,32 @@ pub(super) const OFFSET: Offset = Offset {
     second: 1,
 };
 
-pub(super) const ROWS: [Row; 20] = [
-    Row {
-        call: Call::Parse,
-        text: b"2024-03-02T08:48:00.25-05:00[America/New_York][u-ca=hebrew]",
-        number: 0,
-        date: (2024, 3, 2),
-        time: (8, 48, 25),
-        offset: (2, 5, 0),
-        zone: (1, 0, 16),
-        others: (6, 0, 0),
-    },
-    Row {
-        call: Call::Parse,
-        text: b"2024-03-02",
-        number: 0,
-        date: (2024, 3, 2),
-        time: (0, 0, 0),
-        offset: (0, 0, 0),
-        zone: (0, 0, 0),
-        others: (0, 0, 0),
-    },
-    Row {
-        call: Call::Parse,
-        text: b"2021-02-2",
-        number: 4,
-        date: (1, 1, 1),
-        time: (1, 1, 1),
-        offset: (3, 1, 1),
-        zone: (2, 1, 1),
-        others: (1, 5, 9),
-    },
-    Row {
-        call: Call::YearMonth,
-        text: b"2020-11",
-        number: 0,
-        date: (2020, 11, 1),
-        time: (0, 0, 0),
-        offset: (0, 0, 0),
-        zone: (0, 0, 0),
-        others: (0, 0, 0),
-    },
-    Row {
-        call: Call::YearMonth,
-        text: b"2020-11-08",
-        number: 5,
-        date: (1, 1, 1),
-        time: (1, 1, 1),
-        offset: (3, 1, 1),
-        zone: (2, 1, 1),
-        others: (1, 0, 7),
-    },
-    Row {
-        call: Call::MonthDay,
-        text: b"12-00",
-        number: 0,
-        date: (0, 12, 0),
-        time: (0, 0, 0),
-        offset: (0, 0, 0),
-        zone: (0, 0, 0),
-        others: (0, 0, 0),
-    },
-    Row {
-        call: Call::MonthDayStrict,
-        text: b"12-00",
-        number: 46,
-        date: (1, 1, 1),
-        time: (1, 1, 1),
-        offset: (3, 1, 1),
-        zone: (2, 1, 1),
-        others: (1, 0, 5),
-    },
-    Row {
-        call: Call::MonthDayStrict,
-        text: b"11-07",
-        number: 0,
-        date: (0, 11, 7),
-        time: (0, 0, 0),
-        offset: (0, 0, 0),
-        zone: (0, 0, 0),
-        others: (0, 0, 0),
-    },
-    Row {
-        call: Call::Time,
-        text: b"1200",
-        number: 44,
-        date: (1, 1, 1),
-        time: (1, 1, 1),
-        offset: (3, 1, 1),
-        zone: (2, 1, 1),
-        others: (1, 0, 4),
-    },
-    Row {
-        call: Call::TimeStrict,
-        text: b"1200",
-        number: 0,
-        date: (0, 0, 0),
-        time: (12, 0, 0),
-        offset: (0, 0, 0),
-        zone: (0, 0, 0),
-        others: (0, 0, 0),
-    },
-    Row {
-        call: Call::Time,
-        text: b"T1330Z[+05:30]",
-        number: 0,
-        date: (0, 0, 0),
-        time: (13, 30, 0),
-        offset: (1, 0, 0),
-        zone: (2, 5, 0),
-        others: (0, 0, 0),
-    },
-    Row {
-        call: Call::Offset,
-        text: b"-05:30:10.5",
-        number: 0,
-        date: (0, 0, 0),
-        time: (0, 0, 0),
-        offset: (3, 5, 10),
-        zone: (0, 0, 0),
-        others: (0, 0, 0),
-    },
-    Row {
-        call: Call::Offset,
-        text: b"05:30",
-        number: 37,
-        date: (1, 1, 1),
-        time: (1, 1, 1),
-        offset: (3, 1, 1),
-        zone: (2, 1, 1),
-        others: (1, 0, 0),
-    },
-    Row {
-        call: Call::Rfc3339,
-        text: b"2024-03-02t08:48:00.25-05:00",
-        number: 0,
-        date: (2024, 3, 2),
-        time: (8, 48, 25),
-        offset: (2, 5, 0),
-        zone: (0, 0, 0),
-        others: (0, 0, 0),
-    },
-    Row {
-        call: Call::Rfc3339,
-        text: b"2024-03-02 08:48:00Z",
-        number: 19,
-        date: (1, 1, 1),
-        time: (1, 1, 1),
-        offset: (3, 1, 1),
-        zone: (2, 1, 1),
-        others: (1, 0, 10),
-    },
-    Row {
-        call: Call::Rfc9557,
-        text: b"2024-03-02t08:48:00.25-05:00[-05:00][u-ca=x]",
-        number: 0,
-        date: (2024, 3, 2),
-        time: (8, 48, 25),
-        offset: (2, 5, 0),
-        zone: (2, 5, 0),
-        others: (1, 0, 0),
-    },
-    Row {
-        call: Call::Rfc9557,
-        text: b"2024-03-02T08:48:00Z[+05]",
-        number: 30,
-        date: (1, 1, 1),
-        time: (1, 1, 1),
-        offset: (3, 1, 1),
-        zone: (2, 1, 1),
-        others: (1, 0, 25),
-    },
-    Row {
-        call: Call::Identifier,
-        text: b"+05:30",
-        number: 0,
-        date: (0, 0, 0),
-        time: (0, 0, 0),
-        offset: (0, 0, 0),
-        zone: (2, 5, 0),
-        others: (0, 0, 0),
-    },
-    Row {
-        call: Call::Identifier,
-        text: b"Etc/UTC",
-        number: 0,
-        date: (0, 0, 0),
-        time: (0, 0, 0),
-        offset: (0, 0, 0),
-        zone: (1, 0, 7),
-        others: (0, 0, 0),
-    },
-    Row {
-        call: Call::IanaIdentifier,
-        text: b"Europe/Berlin",
-        number: 0,
-        date: (0, 0, 0),
-        time: (0, 0, 0),
-        offset: (0, 0, 0),
-        zone: (1, 0, 13),
-        others: (0, 0, 0),
-    },
+/// Readers and texts, and what the readers return and write for these texts.
+#[rattlefmt::skip]
+pub(super) const ROWS: [(Call, &[u8], Written); 20] = [
+    (Call::Parse, b"2024-03-02T08:48:00.25-05:00[America/New_York][u-ca=hebrew]",
+        Written { date: (2024, 3, 2), time: (8, 48, 25), offset: (2, 5, 0), zone: (1, 0, 16), others: (6, 0, 0), ..NOTHING }),
+    (Call::Parse, b"2024-03-02", Written { date: (2024, 3, 2), ..NOTHING }),
+    (Call::Parse, b"2021-02-2", Written { number: 4, others: (1, 5, 9), ..UNCHANGED }),
+    (Call::YearMonth, b"2020-11", Written { date: (2020, 11, 1), ..NOTHING }),
+    (Call::YearMonth, b"2020-11-08", Written { number: 5, others: (1, 0, 7), ..UNCHANGED }),
+    (Call::MonthDay, b"12-00", Written { date: (0, 12, 0), ..NOTHING }),
+    (Call::MonthDayStrict, b"12-00", Written { number: 46, others: (1, 0, 5), ..UNCHANGED }),
+    (Call::MonthDayStrict, b"11-07", Written { date: (0, 11, 7), ..NOTHING }),
+    (Call::Time, b"1200", Written { number: 44, others: (1, 0, 4), ..UNCHANGED }),
+    (Call::TimeStrict, b"1200", Written { time: (12, 0, 0), ..NOTHING }),
+    (Call::Time, b"T1330Z[+05:30]", Written { time: (13, 30, 0), offset: (1, 0, 0), zone: (2, 5, 0), ..NOTHING }),
+    (Call::Offset, b"-05:30:10.5", Written { offset: (3, 5, 10), ..NOTHING }),
+    (Call::Offset, b"05:30", Written { number: 37, others: (1, 0, 0), ..UNCHANGED }),
+    (Call::Rfc3339, b"2024-03-02t08:48:00.25-05:00",
+        Written { date: (2024, 3, 2), time: (8, 48, 25), offset: (2, 5, 0), ..NOTHING }),
+    (Call::Rfc3339, b"2024-03-02 08:48:00Z", Written { number: 19, others: (1, 0, 10), ..UNCHANGED }),
+    (Call::Rfc9557, b"2024-03-02t08:48:00.25-05:00[-05:00][u-ca=x]",
+        Written { date: (2024, 3, 2), time: (8, 48, 25), offset: (2, 5, 0), zone: (2, 5, 0), others: (1, 0, 0), ..NOTHING }),
+    (Call::Rfc9557, b"2024-03-02T08:48:00Z[+05]", Written { number: 30, others: (1, 0, 25), ..UNCHANGED }),
+    (Call::Identifier, b"+05:30", Written { zone: (2, 5, 0), ..NOTHING }),
+    (Call::Identifier, b"Etc/UTC", Written { zone: (1, 0, 7), ..NOTHING }),
+    (Call::IanaIdentifier, b"Europe/Berlin", Written { zone: (1, 0, 13), ..NOTHING }),
 ];
 
 /// The readers that list annotations.
@@ -276,18 +129,17 @@ pub(super) enum ListCall {
     Parse,
     YearMonth,
     MonthDay,
-    MonthDayStrict,
     Time,
-    TimeStrict,
     Rfc9557,
+    MonthDayStrict,
+    TimeStrict,
 }
 
-/// A text, and what a reader that lists annotations returns and writes for it. The array has two elements.
-#[derive(Clone, Copy)]
-pub(super) struct ListRow {
-    pub call: ListCall,
-    pub text: &'static [u8],
-    /// The number that the function returns, and the position of the error.
+/// What a reader that lists annotations returned and wrote. The array of annotations has two elements. Before the call, their keys
+/// and values are empty.
+#[derive(Clone, Copy, Debug, PartialEq)]
+pub(super) struct Listed {
+    /// The number that the function returned, and the position of the error.
     pub outcome: (u32, usize),
     /// The number of annotations.
     pub count: usize,
@@ -296,71 +148,23 @@ pub(super) struct ListRow {
     pub second: (bool, usize, usize),
 }
 
-pub(super) const LIST_ROWS: [ListRow; 8] = [
-    ListRow {
-        call: ListCall::Parse,
-        text: b"2024-03-02[a=b][!c=de][u-ca=x]",
-        outcome: (0, 0),
-        count: 3,
-        second: (true, 1, 2),
-    },
-    ListRow {
-        call: ListCall::YearMonth,
-        text: b"2024-03[a=b]",
-        outcome: (0, 0),
-        count: 1,
-        second: (false, 0, 0),
-    },
-    ListRow {
-        call: ListCall::YearMonth,
-        text: b"2024-03[a=b]junk",
-        outcome: (5, 12),
-        count: 1,
-        second: (false, 0, 0),
-    },
-    ListRow {
-        call: ListCall::MonthDay,
-        text: b"11-00[a=b]",
-        outcome: (0, 0),
-        count: 1,
-        second: (false, 0, 0),
-    },
-    ListRow {
-        call: ListCall::MonthDayStrict,
-        text: b"11-07[a=b][cd=efg]",
-        outcome: (0, 0),
-        count: 2,
-        second: (false, 2, 3),
-    },
-    ListRow {
-        call: ListCall::Time,
-        text: b"T12[a=b][c=d]",
-        outcome: (0, 0),
-        count: 2,
-        second: (false, 1, 1),
-    },
-    ListRow {
-        call: ListCall::Rfc9557,
-        text: b"2024-03-02T08:48:00Z[!UTC][a=b][!c=de]",
-        outcome: (0, 0),
-        count: 2,
-        second: (true, 1, 2),
-    },
-    ListRow {
-        call: ListCall::TimeStrict,
-        text: b"1200",
-        outcome: (0, 0),
-        count: 0,
-        second: (false, 0, 0),
-    },
+/// Readers and texts, and what the readers return and write for these texts.
+#[rattlefmt::skip]
+pub(super) const LIST_ROWS: [(ListCall, &[u8], Listed); 8] = [
+    (ListCall::Parse, b"2024-03-02[a=b][!c=de][u-ca=x]", Listed { outcome: (0, 0), count: 3, second: (true, 1, 2) }),
+    (ListCall::YearMonth, b"2024-03[a=b]", Listed { outcome: (0, 0), count: 1, second: (false, 0, 0) }),
+    (ListCall::YearMonth, b"2024-03[a=b]junk", Listed { outcome: (5, 12), count: 1, second: (false, 0, 0) }),
+    (ListCall::MonthDay, b"11-00[a=b]", Listed { outcome: (0, 0), count: 1, second: (false, 0, 0) }),
+    (ListCall::MonthDayStrict, b"11-07[a=b][cd=efg]", Listed { outcome: (0, 0), count: 2, second: (false, 2, 3) }),
+    (ListCall::Time, b"T12[a=b][c=d]", Listed { outcome: (0, 0), count: 2, second: (false, 1, 1) }),
+    (ListCall::Rfc9557, b"2024-03-02T08:48:00Z[!UTC][a=b][!c=de]", Listed { outcome: (0, 0), count: 2, second: (true, 1, 2) }),
+    (ListCall::TimeStrict, b"1200", Listed { outcome: (0, 0), count: 0, second: (false, 0, 0) }),
 ];
 
-/// The text of a duration, and what the reader returns and writes for it. Before the call, all fields are those of [`DURATION`].
-#[derive(Clone, Copy)]
-pub(super) struct DurationRow {
-    pub is_strict: bool,
-    pub text: &'static [u8],
-    /// The number that the function returns, and the position of the error.
+/// What the reader of durations returned and wrote. Before the call, all fields are those of [`DURATION`].
+#[derive(Clone, Copy, Debug, PartialEq)]
+pub(super) struct Lasting {
+    /// The number that the function returned, and the position of the error.
     pub outcome: (u32, usize),
     /// Whether the duration is negative, and its years, weeks and days.
     pub date: (bool, u32, u32, u64),
@@ -368,28 +172,24 @@ pub(super) struct DurationRow {
     pub time: (u8, u64, u64, u64),
 }
 
-pub(super) const DURATION_ROWS: [DurationRow; 3] = [
-    DurationRow {
-        is_strict: false,
-        text: b"-P1Y2Y3W4DT5H6.5M",
-        outcome: (0, 0),
-        date: (true, 2, 3, 4),
-        time: (2, 5, 6, 5),
-    },
-    DurationRow {
-        is_strict: true,
-        text: b"P1Y2Y",
-        outcome: (41, 5),
-        date: (true, 9, 9, 9),
-        time: (9, 9, 9, 9),
-    },
-    DurationRow {
-        is_strict: true,
-        text: b"PT1.5H",
-        outcome: (0, 0),
-        date: (false, 0, 0, 0),
-        time: (1, 1, 0, 5),
-    },
+impl Lasting {
+    /// Creates a `Lasting` from the number that the function returned and from the duration that it wrote.
+    pub(super) fn of(number: u32, it: &Duration<'_>) -> Lasting {
+        Lasting {
+            outcome: (number, it.place),
+            date: (it.is_negative, it.years, it.weeks, it.days),
+            time: (it.time_form, it.hours, it.minutes, it.fraction),
+        }
+    }
+}
+
+/// Each row says whether the profile is strict. It also has the text of a duration, and what the reader returns and writes for
+/// this text.
+#[rattlefmt::skip]
+pub(super) const DURATION_ROWS: [(bool, &[u8], Lasting); 3] = [
+    (false, b"-P1Y2Y3W4DT5H6.5M", Lasting { outcome: (0, 0), date: (true, 2, 3, 4), time: (2, 5, 6, 5) }),
+    (true, b"P1Y2Y", Lasting { outcome: (41, 5), date: (true, 9, 9, 9), time: (9, 9, 9, 9) }),
+    (true, b"PT1.5H", Lasting { outcome: (0, 0), date: (false, 0, 0, 0), time: (1, 1, 0, 5) }),
 ];
 
 /// A duration in which no field is 0, false or empty.
@@ -422,40 +222,11 @@ pub(super) struct ReplyRow {
     pub kept: (bool, usize),
 }
 
+#[rattlefmt::skip]
 pub(super) const REPLY_ROWS: [ReplyRow; 5] = [
-    ReplyRow {
-        key: b"x",
-        value: b"y",
-        is_critical: false,
-        number: 0,
-        kept: (false, 0),
-    },
-    ReplyRow {
-        key: b"u-ca",
-        value: b"hebrew",
-        is_critical: false,
-        number: 0,
-        kept: (true, 6),
-    },
-    ReplyRow {
-        key: b"u-ca",
-        value: b"hebrew",
-        is_critical: true,
-        number: 0,
-        kept: (true, 6),
-    },
-    ReplyRow {
-        key: b"u-ca",
-        value: b"iso8601",
-        is_critical: true,
-        number: 31,
-        kept: (true, 6),
-    },
-    ReplyRow {
-        key: b"x",
-        value: b"y",
-        is_critical: true,
-        number: 32,
-        kept: (true, 6),
-    },
+    ReplyRow { key: b"x", value: b"y", is_critical: false, number: 0, kept: (false, 0) },
+    ReplyRow { key: b"u-ca", value: b"hebrew", is_critical: false, number: 0, kept: (true, 6) },
+    ReplyRow { key: b"u-ca", value: b"hebrew", is_critical: true, number: 0, kept: (true, 6) },
+    ReplyRow { key: b"u-ca", value: b"iso8601", is_critical: true, number: 31, kept: (true, 6) },
+    ReplyRow { key: b"x", value: b"y", is_critical: true, number: 32, kept: (true, 6) },
 ];

@@ -1,6 +1,9 @@
 //! Tests of the functions for 16-bit text.
 
-use super::rows::{Call, DATE, DURATION, DURATION_ROWS, LIST_ROWS, ListCall, OFFSET, ROWS, TIME};
+use super::rows::{
+    Call, DATE, DURATION, DURATION_ROWS, LIST_ROWS, Lasting, ListCall, Listed, OFFSET, ROWS, TIME,
+    Written,
+};
 use crate::exports::*;
 use crate::wide::{Annotation, Calendar, Record, Zone};
 
@@ -30,18 +33,38 @@ const ANNOTATION: Annotation<'static> = Annotation {
     is_critical: false,
 };
 
-/// Returns the bytes as 16-bit code units. The code units after them are 0.
-pub(super) fn units_of(bytes: &[u8]) -> [u16; 64] {
-    let mut units = [0u16; 64];
-    for (unit, byte) in units.iter_mut().zip(bytes) {
-        *unit = u16::from(*byte);
-    }
-    units
+/// A text of 16-bit code units.
+#[derive(Clone, Copy)]
+pub(super) struct Units {
+    /// The code units of the text. The code units after them are 0.
+    pub units: [u16; 64],
+    length: usize,
 }
 
-/// Calls the reader that `call` names.
-fn call<'a>(call: Call, text: &'a [u16], out: &mut Record<'a>) -> u32 {
-    match call {
+impl Units {
+    /// Returns the bytes as 16-bit code units. If there are more than 64 bytes, the text has the first 64.
+    pub(super) fn of(bytes: &[u8]) -> Units {
+        let mut units = [0u16; 64];
+        for (unit, byte) in units.iter_mut().zip(bytes) {
+            *unit = u16::from(*byte);
+        }
+        Units {
+            units,
+            length: bytes.len(),
+        }
+    }
+
+    /// Returns the code units of the text.
+    pub(super) fn as_slice(&self) -> &[u16] {
+        &self.units[..self.length.min(64)]
+    }
+}
+
+/// Passes the 16-bit text to the reader, and returns what the reader returned and wrote.
+fn read(call: Call, text: &[u16]) -> Written {
+    let mut record = RECORD;
+    let out = &mut record;
+    let number = match call {
         Call::Parse => ixdtf16_parse(text, out),
         Call::YearMonth => ixdtf16_parse_year_month(text, out),
         Call::MonthDay => ixdtf16_parse_month_day(text, out),
@@ -53,111 +76,93 @@ fn call<'a>(call: Call, text: &'a [u16], out: &mut Record<'a>) -> u32 {
         Call::Offset => ixdtf16_parse_offset(text, out),
         Call::Identifier => ixdtf16_parse_identifier(text, out),
         Call::IanaIdentifier => ixdtf16_parse_iana_identifier(text, out),
+    };
+    let forms = (record.date, record.time, record.offset);
+    let zone = (record.zone.form, record.zone.hour, record.zone.name.len());
+    let others = (record.calendar.len(), record.location.len(), record.place);
+    Written::of(number, forms, zone, others)
+}
+
+/// Passes the 16-bit text to the reader that lists annotations, and returns what the reader returned and wrote.
+fn list(call: ListCall, text: &[u16]) -> Listed {
+    let mut record = RECORD;
+    let mut annotations = [ANNOTATION, ANNOTATION];
+    let mut count = 9;
+    let (slots, found, out) = (&mut annotations, &mut count, &mut record);
+    let number = match call {
+        ListCall::Parse => ixdtf16_parse_with_annotations(text, slots, found, out),
+        ListCall::YearMonth => ixdtf16_parse_year_month_with_annotations(text, slots, found, out),
+        ListCall::MonthDay => ixdtf16_parse_month_day_with_annotations(text, slots, found, out),
+        ListCall::Time => ixdtf16_parse_time_with_annotations(text, slots, found, out),
+        ListCall::Rfc9557 => ixdtf16_parse_rfc9557_with_annotations(text, slots, found, out),
+        ListCall::MonthDayStrict => {
+            ixdtf16_parse_month_day_with_annotations_strict(text, slots, found, out)
+        }
+        ListCall::TimeStrict => ixdtf16_parse_time_with_annotations_strict(text, slots, found, out),
+    };
+    let second = annotations[1];
+    Listed {
+        outcome: (number, record.place),
+        count,
+        second: (second.is_critical, second.key.len(), second.value.len()),
     }
 }
 
-/// Calls the reader that `call` names. This reader lists annotations.
-fn list<'a>(
-    call: ListCall,
-    text: &'a [u16],
-    slots: &mut [Annotation<'a>],
-    count: &mut usize,
-    out: &mut Record<'a>,
-) -> u32 {
-    match call {
-        ListCall::Parse => ixdtf16_parse_with_annotations(text, slots, count, out),
-        ListCall::YearMonth => ixdtf16_parse_year_month_with_annotations(text, slots, count, out),
-        ListCall::MonthDay => ixdtf16_parse_month_day_with_annotations(text, slots, count, out),
-        ListCall::MonthDayStrict => {
-            ixdtf16_parse_month_day_with_annotations_strict(text, slots, count, out)
-        }
-        ListCall::Time => ixdtf16_parse_time_with_annotations(text, slots, count, out),
-        ListCall::TimeStrict => ixdtf16_parse_time_with_annotations_strict(text, slots, count, out),
-        ListCall::Rfc9557 => ixdtf16_parse_rfc9557_with_annotations(text, slots, count, out),
-    }
+/// Passes the 16-bit text to the reader of durations, and returns what the reader returned and wrote.
+fn read_duration(is_strict: bool, text: &[u16]) -> Lasting {
+    let mut out = DURATION;
+    let number = if is_strict {
+        ixdtf16_parse_duration_strict(text, &mut out)
+    } else {
+        ixdtf16_parse_duration(text, &mut out)
+    };
+    Lasting::of(number, &out)
 }
 
 #[test]
 fn reads_texts(rt: HostRuntime) {
-    for row in ROWS {
-        let units = units_of(row.text);
-        let text = &units[..row.text.len().min(64)];
-        let mut record = RECORD;
-        assert_eq!(rt; call(row.call, text, &mut record), row.number);
-        let date = record.date;
-        assert_eq!(rt; (date.year, date.month, date.day), row.date);
-        let time = record.time;
-        assert_eq!(rt; (time.hour, time.minute, time.fraction), row.time);
-        let offset = record.offset;
-        assert_eq!(rt; (offset.form, offset.hour, offset.second), row.offset);
-        let zone = record.zone;
-        assert_eq!(rt; (zone.form, zone.hour, zone.name.len()), row.zone);
-        assert_eq!(rt;
-            (record.calendar.len(), record.location.len(), record.place),
-            row.others
-        );
+    for (call, text, wanted) in ROWS {
+        let written = read(call, Units::of(text).as_slice());
+        assert_eq!(rt; written, wanted, "at {text:?}");
     }
 }
 
 #[test]
 fn lists_annotations(rt: HostRuntime) {
-    for row in LIST_ROWS {
-        let units = units_of(row.text);
-        let text = &units[..row.text.len().min(64)];
-        let mut record = RECORD;
-        let mut slots = [ANNOTATION, ANNOTATION];
-        let mut count = 9;
-        let number = list(row.call, text, &mut slots, &mut count, &mut record);
-        assert_eq!(rt; (number, record.place), row.outcome);
-        assert_eq!(rt; count, row.count);
-        let second = slots[1];
-        assert_eq!(rt;
-            (second.is_critical, second.key.len(), second.value.len()),
-            row.second
-        );
+    for (call, text, wanted) in LIST_ROWS {
+        let listed = list(call, Units::of(text).as_slice());
+        assert_eq!(rt; listed, wanted, "at {text:?}");
     }
 }
 
 #[test]
 fn reads_durations(rt: HostRuntime) {
-    for row in DURATION_ROWS {
-        let units = units_of(row.text);
-        let text = &units[..row.text.len().min(64)];
-        let mut out = DURATION;
-        let number = if row.is_strict {
-            ixdtf16_parse_duration_strict(text, &mut out)
-        } else {
-            ixdtf16_parse_duration(text, &mut out)
-        };
-        assert_eq!(rt; (number, out.place), row.outcome);
-        assert_eq!(rt; (out.is_negative, out.years, out.weeks, out.days), row.date);
-        assert_eq!(rt;
-            (out.time_form, out.hours, out.minutes, out.fraction),
-            row.time
-        );
+    for (is_strict, text, wanted) in DURATION_ROWS {
+        let written = read_duration(is_strict, Units::of(text).as_slice());
+        assert_eq!(rt; written, wanted, "at {text:?}");
     }
 }
 
 #[test]
 fn takes_replies(rt: HostRuntime) {
-    let u_ca = units_of(b"u-ca");
-    let hebrew = units_of(b"hebrew");
-    let iso8601 = units_of(b"iso8601");
+    let u_ca = Units::of(b"u-ca");
+    let hebrew = Units::of(b"hebrew");
+    let iso8601 = Units::of(b"iso8601");
     let mut calendar = Calendar {
         value: &[],
         is_critical: false,
         is_there: false,
     };
     let first = Annotation {
-        key: &u_ca[..4],
-        value: &hebrew[..6],
+        key: u_ca.as_slice(),
+        value: hebrew.as_slice(),
         is_critical: false,
     };
     assert_eq!(rt; ixdtf16_reply(&mut calendar, &first), 0);
     assert_eq!(rt; (calendar.is_there, calendar.value.len()), (true, 6));
     let other = Annotation {
-        key: &u_ca[..4],
-        value: &iso8601[..7],
+        key: u_ca.as_slice(),
+        value: iso8601.as_slice(),
         is_critical: true,
     };
     assert_eq!(rt; ixdtf16_reply(&mut calendar, &other), 31);

@@ -19,15 +19,16 @@ here in_run bytes i h =
     let e : drop i bytes ≡ get_or bytes i 0 ∷ drop (i + 1) bytes = rw add-one (drop-cons bytes i 0 h) in
     ap (λ t. goes_as_value in_run (map Plain t)) e ∙ opened in_run (get_or bytes i 0) (map Plain (drop (i + 1) bytes))
 
-pub over_value_byte : (in_run : Bool) (bytes : List ℕ) (i : ℕ) → i < length bytes → value_char (get_or bytes i 0) ≡ true
-    → from_place in_run bytes i ≡ from_place true bytes (i + 1)
-over_value_byte in_run bytes i h t = here in_run bytes i h ∙ rw t refl
+-- The loop goes on after the byte at index `i`: `next` says whether a run of letters and digits is open after this byte.
+module _ (in_run next : Bool) (bytes : List ℕ) (i : ℕ) (all : from_place false bytes 0 ≡ from_place in_run bytes i) (h : i < length bytes) where
+  pub over_value_byte : value_char (get_or bytes i 0) ≡ true → next ≡ true → from_place false bytes 0 ≡ from_place next bytes (i + 1)
+  over_value_byte t is = all ∙ here in_run bytes i h ∙ rw (t, is) refl
 
-pub over_mark : (in_run : Bool) (bytes : List ℕ) (i : ℕ) → i < length bytes → value_char (get_or bytes i 0) ≡ false → get_or bytes i 0 ≡ 45
-    → in_run ≡ true → from_place in_run bytes i ≡ from_place false bytes (i + 1)
-over_mark in_run bytes i h t e r =
-    let mark : hyphen (get_or bytes i 0) ≡ true = rw e refl in
-    here in_run bytes i h ∙ rw (t, mark, r) refl
+  pub over_mark : value_char (get_or bytes i 0) ≡ false → get_or bytes i 0 ≡ 45 → in_run ≡ true → next ≡ false
+      → from_place false bytes 0 ≡ from_place next bytes (i + 1)
+  over_mark t e r is =
+      let mark : hyphen (get_or bytes i 0) ≡ true = rw e refl in
+      all ∙ here in_run bytes i h ∙ rw (t, mark, r, is) refl
 
 not_both : (a b : Bool) → ((IsFalse a) ⊎ (b ≡ false)) → (a && b) ≡ false
 not_both true b (inl h) = absurd cc

@@ -3,7 +3,7 @@ use Rattle.std.proofs.Common.{ℕ, zero, suc, ◌+◌, ◌%◌, ◌/◌, ◌^◌
 use Rattle.std.proofs.{Common.{sym, arith, append-nil, ◌∙◌}, lemmas.Bool.Decides.nat_tests, Math.Nat.{div-one, zero-div}}
 use Rattle.ixdtf.specs.language.{Letters.{Text, digit, Letter.Plain}, Shapes.digits, Digits.{padded_digits, TwoDigits, UpTo}, Fractions.FractionParts}
 use Rattle.ixdtf_grammar.proofs.PaddedDigits.{decimal-whole}
-use Rattle.ixdtf_print.specs.Canonical.{two_digits, fraction_digits, fraction_text}
+use Rattle.ixdtf_print.specs.Canonical.{two_digits, minutes_text, seconds_text, fraction_digits, fraction_text}
 
 is_digit : (n : ℕ) → IsTrue (digit (48 + n % 10))
 is_digit n = grind (arith, nat_tests)
@@ -45,6 +45,17 @@ two_is number = rw div-one refl
 
 pub two_written : (number tens ones : ℕ) → tens ≡ 48 + number / 10 % 10 → ones ≡ 48 + number % 10 → two_digits number ≡ Plain tens ∷ (Plain ones ∷ [])
 two_written number tens ones t o = rw (t, o) (two_is number)
+
+-- An hour and a minute are `abcd` after these digits are written, and a second is `ef`.
+module _ (hour minute : ℕ) {a b c d : ℕ} (p : a ≡ 48 + hour / 10 % 10) (q : b ≡ 48 + hour % 10) (r : c ≡ 48 + minute / 10 % 10) (s : d ≡ 48 + minute % 10) where
+  pub minutes_written : minutes_text hour minute ≡ Plain a ∷ (Plain b ∷ (Plain 58 ∷ (Plain c ∷ (Plain d ∷ []))))
+  unfolding minutes_text
+  minutes_written = rw (two_written hour a b p q, two_written minute c d r s) refl
+
+  pub seconds_written : (second : ℕ) {e f : ℕ} → e ≡ 48 + second / 10 % 10 → f ≡ 48 + second % 10
+      → seconds_text hour minute second ≡ Plain a ∷ (Plain b ∷ (Plain 58 ∷ (Plain c ∷ (Plain d ∷ (Plain 58 ∷ (Plain e ∷ (Plain f ∷ [])))))))
+  unfolding seconds_text
+  seconds_written second {e} {f} t u = rw (two_written hour a b p q, two_written minute c d r s, two_written second e f t u) refl
 
 pub fraction_is : (fraction : FractionParts) → fraction_text (Some fraction)
     ≡ (Plain 46 ∷ []) ++ (padded_digits (min fraction.count 18) fraction.value ++ padded_digits (fraction.count - 18) 0)

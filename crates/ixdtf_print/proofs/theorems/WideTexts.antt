@@ -156,10 +156,12 @@ prints_as h p = record {
 }
 
 -- A record is printed, its text is the same in both widths, and the record is read back from it.
-pub record IsPrinted (printable back : Type 0) (canonical : Text) (old new : List ℕ) (result : Result ℕ PrintError) : Type 0 where
-  pub prints : PrintsOrRefuses printable canonical old new result
-  pub wide : IfOk result (λ n. wide_text (take n new) ≡ canonical)
-  pub read_back : OnOk result back
+abbrev pub IsPrinted : (can_print back : Type 0) (canonical : Text) (old new : List ℕ) (result : Result ℕ PrintError) → Type 0
+IsPrinted can_print back canonical old new result = record {
+  prints : PrintsOrRefuses can_print canonical old new result;
+  wide : IfOk result (λ n. wide_text (take n new) ≡ canonical);
+  read_back : OnOk result back;
+}
 
 -- If `before` holds, `after` holds with the same text, and the other way around. The text is the same in both widths.
 pub record AreSame (before after : Type 0) (text canonical : Text) : Type 0 where
@@ -180,21 +182,25 @@ is_printed {before} {after} {canonical = canonical} {old = old} {new = new} {res
     }
 
 -- The length of the text of a record, if there is a text that fits into a slice.
-pub record IsCounted (printable : Type 0) (canonical : Text) (result : Option ℕ) : Type 0 where
-  pub counted : IfSome result (λ n. n ≡ length canonical)
-  pub known : OnSome result printable
-  pub none : (result ≡ None) ↔ ¬ (printable × (length canonical < 2 ^ 64))
+abbrev HasNoLength : (can_print : Type 0) (canonical : Text) (result : Option ℕ) → Type 0
+HasNoLength can_print canonical result = (result ≡ None) ↔ ¬ (can_print × (length canonical < 2 ^ 64))
+
+abbrev pub IsCounted : (can_print : Type 0) (canonical : Text) (result : Option ℕ) → Type 0
+IsCounted can_print canonical result = record {
+  length : IfSome result (λ n. n ≡ length canonical);
+  printable : OnSome result can_print;
+  none : HasNoLength can_print canonical result;
+}
 
 on_some : {A : Type 0} {before after : Type 0} (result : Option A) → OnSome result before → (before → after) → OnSome result after
 on_some (Some a) k f = f k
 on_some None k f = tt
 
 pub is_counted : {before after : Type 0} {text canonical : Text} {result : Option ℕ} → AreSame before after text canonical
-    → IfSome result (λ n. n ≡ length text) → OnSome result before → (result ≡ None) ↔ ¬ (before × (length text < 2 ^ 64))
-    → IsCounted after canonical result
+    → IfSome result (λ n. n ≡ length text) → OnSome result before → HasNoLength before text result → IsCounted after canonical result
 is_counted {result = result} same counted known none = record {
-  counted = rw same.same at counted;
-  known = on_some result known same.both.0;
+  length = rw same.same at counted;
+  printable = on_some result known same.both.0;
   none = (
     λ e a. none.0 e (same.both.1 a.0, rw same.same a.1),
     λ h. none.1 (λ b. h (same.both.0 b.0, rw same.same at b.1)),

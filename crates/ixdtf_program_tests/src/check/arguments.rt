@@ -115,7 +115,7 @@ fn finds_the_name_of_a_field(rt: HostRuntime) {
         assert_eq!(rt; options.field_name(), *wanted);
         if let Some(field_name) = *wanted {
             let last = words.last().copied().unwrap_or("");
-            assert_eq!(rt; field_name.in_word(last), b"when".as_slice());
+            assert_eq!(rt; field_name.in_word(last), "when");
         }
     }
 }

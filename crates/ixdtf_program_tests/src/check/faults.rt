@@ -3,12 +3,11 @@
 ghost use Rattle.std.specs.Prelude.{◌<◌};
 
 use super::DATE_TIMES;
-use ixdtf::parsers::Profile;
 use ixdtf_buffers::error::RunError;
 use ixdtf_buffers::output::Output;
 use ixdtf_checks::checker::{Checked, check};
 use ixdtf_checks::kind::Kind;
-use ixdtf_checks::request::{Format, Request, Task};
+use ixdtf_checks::request::{Request, Task};
 use ixdtf_checks::tally::Tally;
 use std::io;
 use std::io::{ErrorKind, Read, Write};
@@ -21,14 +20,8 @@ const FIRST_REPORT: &[u8] =
 
 /// A request that prints the canonical texts of date-times.
 const PRINTED: Request<'static> = Request {
-    name: "f",
     task: Task::Print(Kind::DateTime),
-    profile: Profile::Crate,
-    field: None,
-    skips: None,
-    most_reports: u64::MAX,
-    format: Format::Text,
-    is_quiet: false,
+    ..DATE_TIMES
 };
 
 /// A reader that returns some bytes, and then fails.

@@ -1,22 +1,29 @@
 //! Tests the reports as objects of JSON. People counted the columns by hand. The names of the reasons are those of `docs/FAULTS.md`.
 
-use super::{DATE_TIMES, check_both, check_written};
-use ixdtf::parsers::Profile;
+use super::{DATE_TIMES, SECOND_FIELD, SECOND_OF_RECORD, check_both, check_line, check_written};
 use ixdtf_checks::kind::{InstantKind, Kind};
-use ixdtf_checks::request::{Extent, Field, Format, Request, Task};
+use ixdtf_checks::request::{Format, Request, Task};
+use std::alloc::Global;
+use std::process::Abort;
 use std::test::Fail;
 
 /// A request for reports as objects of JSON.
 const OBJECTS: Request<'static> = Request {
-    name: "f",
-    task: Task::Check(Kind::DateTime),
-    profile: Profile::Crate,
-    field: None,
-    skips: None,
-    most_reports: u64::MAX,
     format: Format::Json,
-    is_quiet: false,
+    ..DATE_TIMES
 };
+
+/// Asserts that a line is refused, and that its report is an object of JSON. `rest` is what follows the number of the line in the object.
+fn check_object(
+    rt: &impl Abort,
+    alloc: Global,
+    request: &Request<'_>,
+    line: &[u8],
+    rest: &str,
+) -> Result<(), Fail> {
+    let object = format!(in alloc; "{{\"file\":\"f\",\"line\":1,{rest}")?;
+    check_line(rt, alloc, request, line, object.as_str())
+}
 
 /// The second and the fourth line are refused.
 const MIXED: &[u8] = b"2024-03-02T08:48:00Z\n\n2020-01-01\r\n2021-02-29\r\n";
@@ -57,11 +64,9 @@ const TEXTS: &[(Kind, &[u8], &str)] = &[
 #[test]
 fn names_the_reason_and_the_part_that_is_wrong(rt: HostRuntime) -> Result<(), Fail> {
     let mut request = OBJECTS;
-    let alloc = rt.alloc();
-    for (kind, text, object) in TEXTS {
+    for (kind, text, rest) in TEXTS {
         request.task = Task::Check(*kind);
-        let wanted = format!(in alloc; "{{\"file\":\"f\",\"line\":1,{object}")?;
-        check_written(&rt, alloc, &request, text, wanted.as_bytes(), (1, 1))?;
+        check_object(&rt, rt.alloc(), &request, text, rest)?;
     }
     Ok(())
 }
@@ -81,15 +86,9 @@ const RECORDS: &[(&[u8], &str)] = &[
 #[test]
 fn names_what_is_wrong_in_a_record(rt: HostRuntime) -> Result<(), Fail> {
     let mut request = OBJECTS;
-    request.field = Some(Field {
-        before: 1,
-        separator: b',',
-        extent: Extent::Csv,
-    });
-    let alloc = rt.alloc();
-    for (line, object) in RECORDS {
-        let wanted = format!(in alloc; "{{\"file\":\"f\",\"line\":1,{object}")?;
-        check_written(&rt, alloc, &request, line, wanted.as_bytes(), (1, 1))?;
+    request.field = Some(SECOND_OF_RECORD);
+    for (line, rest) in RECORDS {
+        check_object(&rt, rt.alloc(), &request, line, rest)?;
     }
     Ok(())
 }
@@ -105,11 +104,7 @@ const LINE_OBJECTS: &[u8] = b"{\"file\":\"f\",\"line\":2,\"column\":4,\"end\":4,
 fn names_what_is_wrong_with_the_order(rt: HostRuntime) -> Result<(), Fail> {
     let mut request = OBJECTS;
     request.task = Task::Order(InstantKind::DateTime);
-    request.field = Some(Field {
-        before: 1,
-        separator: b',',
-        extent: Extent::One,
-    });
+    request.field = Some(SECOND_FIELD);
     check_written(&rt, rt.alloc(), &request, LINES, LINE_OBJECTS, (3, 2))
 }
 
@@ -131,7 +126,7 @@ fn escapes_names_of_files(rt: HostRuntime) -> Result<(), Fail> {
         let wanted = format!(in alloc;
             "{{\"file\":\"{escaped}\",\"line\":1,\"column\":6,\"end\":8,\"reason\":\"month_range\",\"text\":\"the month is 13, and has to be 01 to 12\"}}\n"
         )?;
-        check_written(&rt, alloc, &request, b"2020-13", wanted.as_bytes(), (1, 1))?;
+        check_line(&rt, alloc, &request, b"2020-13", wanted.as_str())?;
     }
     Ok(())
 }

@@ -1,8 +1,7 @@
 //! Tests the marks under the part of a text that is wrong, and what a message shows of the text.
 
-use super::{DATE_TIMES, check_written};
+use super::{DATE_TIMES, check_kinds, check_line};
 use ixdtf_checks::kind::Kind;
-use ixdtf_checks::request::Task;
 use std::test::Fail;
 
 /// Texts in which the part that is wrong has several bytes, and their reports. The column is that of the first byte of the part.
@@ -24,13 +23,7 @@ const PARTS: &[(Kind, &str, &str)] = &[
 
 #[test]
 fn marks_each_byte_of_the_part_that_is_wrong(rt: HostRuntime) -> Result<(), Fail> {
-    let mut request = DATE_TIMES;
-    for (kind, text, report) in PARTS {
-        request.task = Task::Check(*kind);
-        let bytes = report.as_bytes();
-        check_written(&rt, rt.alloc(), &request, text.as_bytes(), bytes, (1, 1))?;
-    }
-    Ok(())
+    check_kinds(&rt, rt.alloc(), PARTS)
 }
 
 /// Texts with a character that the message shows by its number or by its name, and their reports. Only the first byte of such a
@@ -48,8 +41,7 @@ const CHARACTERS: &[(&str, &str)] = &[
 #[test]
 fn says_which_character_does_not_fit(rt: HostRuntime) -> Result<(), Fail> {
     for (text, report) in CHARACTERS {
-        let bytes = report.as_bytes();
-        check_written(&rt, rt.alloc(), &DATE_TIMES, text.as_bytes(), bytes, (1, 1))?;
+        check_line(&rt, rt.alloc(), &DATE_TIMES, text.as_bytes(), report)?;
     }
     Ok(())
 }
@@ -69,8 +61,7 @@ const BYTES: &[(&[u8], &str)] = &[
 #[test]
 fn says_which_byte_is_no_character(rt: HostRuntime) -> Result<(), Fail> {
     for (text, report) in BYTES {
-        let bytes = report.as_bytes();
-        check_written(&rt, rt.alloc(), &DATE_TIMES, text, bytes, (1, 1))?;
+        check_line(&rt, rt.alloc(), &DATE_TIMES, text, report)?;
     }
     Ok(())
 }

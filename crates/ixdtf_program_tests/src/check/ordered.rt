@@ -1,8 +1,8 @@
 //! Tests the order of lines by the instants of their texts.
 
-use super::{DATE_TIMES, check_written};
+use super::{DATE_TIMES, SECOND_FIELD, check_written};
 use ixdtf_checks::kind::{InstantKind, Kind};
-use ixdtf_checks::request::{Extent, Field, Task};
+use ixdtf_checks::request::Task;
 use std::test::Fail;
 
 /// Lines. Some of them are too early, name no instant, or are refused for another reason.
@@ -32,19 +32,11 @@ fn refuses_lines_that_go_back(rt: HostRuntime) -> Result<(), Fail> {
 fn marks_the_field_that_goes_back(rt: HostRuntime) -> Result<(), Fail> {
     let mut request = DATE_TIMES;
     request.task = Task::Order(InstantKind::Rfc3339);
-    request.field = Some(Field {
-        before: 1,
-        separator: b',',
-        extent: Extent::One,
-    });
-    check_written(
-        &rt,
-        rt.alloc(),
-        &request,
-        b"a,2024-03-02T09:30:00Z\na\nb,2024-03-02T09:29:59Z,c\n",
-        b"f:2:2: no such field\nf:3:3: earlier than the line before\n2024-03-02T09:29:59Z\n^\n",
-        (3, 2),
-    )
+    request.field = Some(SECOND_FIELD);
+    let lines = b"a,2024-03-02T09:30:00Z\na\nb,2024-03-02T09:29:59Z,c\n";
+    let reports =
+        b"f:2:2: no such field\nf:3:3: earlier than the line before\n2024-03-02T09:29:59Z\n^\n";
+    check_written(&rt, rt.alloc(), &request, lines, reports, (3, 2))
 }
 
 /// The kinds whose texts can name instants, and some of the other kinds.

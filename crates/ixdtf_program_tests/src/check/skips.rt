@@ -1,7 +1,7 @@
 //! Tests with lines that have no text, and with bytes that do not belong to a line.
 
-use super::{DATE_TIMES, check_written};
-use ixdtf_checks::request::{Extent, Field, Skips};
+use super::{DATE_TIMES, SECOND_FIELD, check_written};
+use ixdtf_checks::request::Skips;
 use std::test::Fail;
 
 /// No line is skipped.
@@ -49,15 +49,9 @@ fn skips_lines_without_a_text(rt: HostRuntime) -> Result<(), Fail> {
 fn skips_no_other_line(rt: HostRuntime) -> Result<(), Fail> {
     let mut request = DATE_TIMES;
     request.skips = Some(NOTHING);
-    let written = b"f:2:1: the text is empty; expected a year of four digits\n\n^\n";
-    check_written(
-        &rt,
-        rt.alloc(),
-        &request,
-        b"2020-01-01\n\n",
-        written,
-        (2, 1),
-    )
+    let lines = b"2020-01-01\n\n";
+    let report = b"f:2:1: the text is empty; expected a year of four digits\n\n^\n";
+    check_written(&rt, rt.alloc(), &request, lines, report, (2, 1))
 }
 
 /// Files with a byte order mark, and the reports about them.
@@ -90,17 +84,8 @@ fn drops_a_byte_order_mark(rt: HostRuntime) -> Result<(), Fail> {
 #[test]
 fn counts_columns_after_a_byte_order_mark(rt: HostRuntime) -> Result<(), Fail> {
     let mut request = DATE_TIMES;
-    request.field = Some(Field {
-        before: 1,
-        separator: b',',
-        extent: Extent::One,
-    });
-    check_written(
-        &rt,
-        rt.alloc(),
-        &request,
-        b"\xEF\xBB\xBFa\na\n",
-        b"f:1:2: no such field\nf:2:2: no such field\n",
-        (2, 2),
-    )
+    request.field = Some(SECOND_FIELD);
+    let lines = b"\xEF\xBB\xBFa\na\n";
+    let reports = b"f:1:2: no such field\nf:2:2: no such field\n";
+    check_written(&rt, rt.alloc(), &request, lines, reports, (2, 2))
 }

@@ -1,10 +1,13 @@
 //! Tests with examples of lines and their reports.
 
-use super::{DATE_TIMES, check_both, check_written};
+use super::{
+    DATE_TIMES, SECOND_FIELD, SECOND_OF_RECORD, asked_of, check_both, check_kinds, check_line,
+    check_written,
+};
 use ixdtf::parsers::Profile;
 use ixdtf_buffers::place::pass_many;
 use ixdtf_checks::kind::Kind;
-use ixdtf_checks::request::{Extent, Field, Request, Task};
+use ixdtf_checks::request::{Extent, Field, Task};
 use std::alloc::Global;
 use std::process::Abort;
 use std::test::Fail;
@@ -74,19 +77,11 @@ const REFUSED: &[(Kind, Profile, &str, &str)] = &[
     (Kind::MonthDay, Profile::Strict, "11-00", "f:1:4: the day is 00, and has to be 01 to 30\n11-00\n   ^^\n"),
 ];
 
-/// Returns a request that checks texts of the kind under the profile.
-fn asked_of(kind: Kind, profile: Profile) -> Request<'static> {
-    let mut request = DATE_TIMES;
-    request.task = Task::Check(kind);
-    request.profile = profile;
-    request
-}
-
 #[test]
 fn reads_each_kind(rt: HostRuntime) -> Result<(), Fail> {
     for (kind, text) in TEXTS {
         let request = asked_of(*kind, Profile::Crate);
-        check_written(&rt, rt.alloc(), &request, text.as_bytes(), b"", (1, 0))?;
+        check_line(&rt, rt.alloc(), &request, text.as_bytes(), "")?;
     }
     Ok(())
 }
@@ -95,8 +90,7 @@ fn reads_each_kind(rt: HostRuntime) -> Result<(), Fail> {
 fn refuses_texts_of_other_kinds(rt: HostRuntime) -> Result<(), Fail> {
     for (kind, profile, text, report) in REFUSED {
         let request = asked_of(*kind, *profile);
-        let bytes = report.as_bytes();
-        check_written(&rt, rt.alloc(), &request, text.as_bytes(), bytes, (1, 1))?;
+        check_line(&rt, rt.alloc(), &request, text.as_bytes(), report)?;
     }
     Ok(())
 }
@@ -104,20 +98,12 @@ fn refuses_texts_of_other_kinds(rt: HostRuntime) -> Result<(), Fail> {
 #[test]
 fn reads_a_field(rt: HostRuntime) -> Result<(), Fail> {
     let mut request = DATE_TIMES;
-    request.field = Some(Field {
-        before: 1,
-        separator: b',',
-        extent: Extent::One,
-    });
-    check_written(
-        &rt,
-        rt.alloc(),
-        &request,
-        b"a,2020-01-01,b\nab,2020-W01-1\nabc\n,2020-01-01\r\n",
+    request.field = Some(SECOND_FIELD);
+    let lines = b"a,2020-01-01,b\nab,2020-W01-1\nabc\n,2020-01-01\r\n";
+    let reports =
         b"f:2:9: expected a digit of the month, which has two, found `W`\n2020-W01-1\n     ^\nhint: a week is not read; write the month instead\n\
-f:3:4: no such field\n",
-        (4, 2),
-    )
+f:3:4: no such field\n";
+    check_written(&rt, rt.alloc(), &request, lines, reports, (4, 2))
 }
 
 #[test]
@@ -125,18 +111,13 @@ fn reads_a_field_behind_many(rt: HostRuntime) -> Result<(), Fail> {
     let mut request = DATE_TIMES;
     request.field = Some(Field {
         before: 20,
-        separator: b',',
-        extent: Extent::One,
+        ..SECOND_FIELD
     });
-    check_written(
-        &rt,
-        rt.alloc(),
-        &request,
-        b",,,,,,,,,,,,,,,,,,,,2020-01-01,b\n,,,,,,,,,,,,,,,,,,,ab,2020-13-01\n,,,,,,,,,,,,,,,,,,,2020-01-01\n",
-        b"f:2:28: the month is 13, and has to be 01 to 12\n2020-13-01\n     ^^\n\
-f:3:30: no such field\n",
-        (3, 2),
-    )
+    let lines =
+        b",,,,,,,,,,,,,,,,,,,,2020-01-01,b\n,,,,,,,,,,,,,,,,,,,ab,2020-13-01\n,,,,,,,,,,,,,,,,,,,2020-01-01\n";
+    let reports = b"f:2:28: the month is 13, and has to be 01 to 12\n2020-13-01\n     ^^\n\
+f:3:30: no such field\n";
+    check_written(&rt, rt.alloc(), &request, lines, reports, (3, 2))
 }
 
 #[test]
@@ -147,15 +128,12 @@ fn reads_two_fields(rt: HostRuntime) -> Result<(), Fail> {
         separator: b' ',
         extent: Extent::More(1),
     });
-    check_written(
-        &rt,
-        rt.alloc(),
-        &request,
-        b"a 2020-01-01 12:00:00 b\nab 2020-01-01 25:00:00\na 2020-01-01\nabc\na 2020-01-01  12:00\n",
+    let lines =
+        b"a 2020-01-01 12:00:00 b\nab 2020-01-01 25:00:00\na 2020-01-01\nabc\na 2020-01-01  12:00\n";
+    let reports =
         b"f:2:15: the hour is 25, and has to be 00 to 23\n2020-01-01 25:00:00\n           ^^\n\
-f:3:13: no such field\nf:4:4: no such field\nf:5:14: the text ends before the hour; expected two digits\n2020-01-01 \n           ^\nhint: remove the white space at the end\n",
-        (5, 4),
-    )
+f:3:13: no such field\nf:4:4: no such field\nf:5:14: the text ends before the hour; expected two digits\n2020-01-01 \n           ^\nhint: remove the white space at the end\n";
+    check_written(&rt, rt.alloc(), &request, lines, reports, (5, 4))
 }
 
 /// Records of RFC 4180 and lines that are none, with what is written about the second field.
@@ -202,21 +180,9 @@ const RECORDS: &[(&[u8], &str)] = &[
 #[test]
 fn reads_a_field_of_a_record(rt: HostRuntime) -> Result<(), Fail> {
     let mut request = DATE_TIMES;
-    request.field = Some(Field {
-        before: 1,
-        separator: b',',
-        extent: Extent::Csv,
-    });
+    request.field = Some(SECOND_OF_RECORD);
     for (line, report) in RECORDS {
-        let refused = u64::from(!report.is_empty());
-        check_written(
-            &rt,
-            rt.alloc(),
-            &request,
-            line,
-            report.as_bytes(),
-            (1, refused),
-        )?;
+        check_line(&rt, rt.alloc(), &request, line, report)?;
     }
     Ok(())
 }
@@ -271,8 +237,7 @@ const SHOWN: &[(&str, &str)] = &[
 #[test]
 fn shows_characters_outside_ascii(rt: HostRuntime) -> Result<(), Fail> {
     for (text, report) in SHOWN {
-        let bytes = report.as_bytes();
-        check_written(&rt, rt.alloc(), &DATE_TIMES, text.as_bytes(), bytes, (1, 1))?;
+        check_line(&rt, rt.alloc(), &DATE_TIMES, text.as_bytes(), report)?;
     }
     Ok(())
 }
@@ -366,33 +331,25 @@ const SPACED: &[(Kind, &str, &str)] = &[
 
 #[test]
 fn names_a_space_before_an_offset(rt: HostRuntime) -> Result<(), Fail> {
-    let mut request = DATE_TIMES;
-    for (kind, text, report) in SPACED {
-        request.task = Task::Check(*kind);
-        let bytes = report.as_bytes();
-        check_written(&rt, rt.alloc(), &request, text.as_bytes(), bytes, (1, 1))?;
-    }
-    Ok(())
+    check_kinds(&rt, rt.alloc(), SPACED)
 }
 
 #[test]
 fn shows_no_line_that_is_not_utf8(rt: HostRuntime) -> Result<(), Fail> {
-    check_written(
+    check_line(
         &rt,
         rt.alloc(),
         &DATE_TIMES,
         b"2020-01-01\xff",
-        b"f:1:11: expected `T`, a space, `[` or the end after the date, found the byte 0xFF\n",
-        (1, 1),
+        "f:1:11: expected `T`, a space, `[` or the end after the date, found the byte 0xFF\n",
     )?;
     // A line is not shown either if only the part that would be shown is ASCII.
-    check_written(
+    check_line(
         &rt,
         rt.alloc(),
         &DATE_TIMES,
         b"2020-13-01, and so on, as far as it is not shown any more \xff",
-        b"f:1:6: the month is 13, and has to be 01 to 12\n",
-        (1, 1),
+        "f:1:6: the month is 13, and has to be 01 to 12\n",
     )
 }
 

@@ -56,56 +56,15 @@ fn is_equal_by_error_place_and_reason(rt: HostRuntime) {
 }
 
 // A reason, its position in a text, the text, its message, and the part of the text that is wrong.
+#[rattlefmt::skip]
 const MESSAGES: &[(Reason, usize, &[u8], &str, WrongPart)] = &[
-    (
-        Reason::MonthRange,
-        7,
-        b"2024-13-01",
-        "the month is 13, and has to be 01 to 12",
-        WrongPart { begin: 5, end: 7 },
-    ),
-    (
-        Reason::DayRange,
-        10,
-        b"2023-02-29",
-        "the day is 29, and has to be 01 to 28",
-        WrongPart { begin: 8, end: 10 },
-    ),
-    (
-        Reason::MonthDigits,
-        6,
-        b"2024-3-02",
-        "expected a digit of the month, which has two, found `-`",
-        WrongPart { begin: 6, end: 7 },
-    ),
-    (
-        Reason::MonthDigits,
-        6,
-        b"2024-3",
-        "the text ends in the month; expected two digits",
-        WrongPart { begin: 6, end: 6 },
-    ),
-    (
-        Reason::AfterDate,
-        10,
-        b"2024-03-02\xE9",
-        "expected `T`, a space, `[` or the end after the date, found the byte 0xE9",
-        WrongPart { begin: 10, end: 11 },
-    ),
-    (
-        Reason::AfterYear,
-        4,
-        b"2024\xE2\x80\x9303",
-        "expected `-` or a digit of the month, found U+2013 (en dash)",
-        WrongPart { begin: 4, end: 5 },
-    ),
-    (
-        Reason::DateUnitOrder,
-        5,
-        b"P1D1Y",
-        "the unit `Y` stands too late; the order is Y, M, W, D, each once",
-        WrongPart { begin: 3, end: 5 },
-    ),
+    (Reason::MonthRange, 7, b"2024-13-01", "the month is 13, and has to be 01 to 12", WrongPart { begin: 5, end: 7 }),
+    (Reason::DayRange, 10, b"2023-02-29", "the day is 29, and has to be 01 to 28", WrongPart { begin: 8, end: 10 }),
+    (Reason::MonthDigits, 6, b"2024-3-02", "expected a digit of the month, which has two, found `-`", WrongPart { begin: 6, end: 7 }),
+    (Reason::MonthDigits, 6, b"2024-3", "the text ends in the month; expected two digits", WrongPart { begin: 6, end: 6 }),
+    (Reason::AfterDate, 10, b"2024-03-02\xE9", "expected `T`, a space, `[` or the end after the date, found the byte 0xE9", WrongPart { begin: 10, end: 11 }),
+    (Reason::AfterYear, 4, b"2024\xE2\x80\x9303", "expected `-` or a digit of the month, found U+2013 (en dash)", WrongPart { begin: 4, end: 5 }),
+    (Reason::DateUnitOrder, 5, b"P1D1Y", "the unit `Y` stands too late; the order is Y, M, W, D, each once", WrongPart { begin: 3, end: 5 }),
 ];
 
 #[test]
@@ -123,65 +82,21 @@ fn says_what_is_wrong(rt: HostRuntime) -> Result<(), Fail> {
 }
 
 // Reasons, positions, texts and hints. The hint is empty if there is none.
+#[rattlefmt::skip]
 const HINTS: &[(Reason, usize, &[u8], &str)] = &[
-    (
-        Reason::MonthDigits,
-        6,
-        b"2024-3-02",
-        "write the month as `03`",
-    ),
+    (Reason::MonthDigits, 6, b"2024-3-02", "write the month as `03`"),
     (Reason::MonthDigits, 6, b"2024-0-02", ""),
-    (
-        Reason::MonthDigits,
-        5,
-        b"12024-03-02",
-        "write a year after 9999 with a sign and six digits, like +012024",
-    ),
-    (
-        Reason::MonthRange,
-        6,
-        b"1709369280",
-        "a Unix time is not read; convert it first",
-    ),
+    (Reason::MonthDigits, 5, b"12024-03-02", "write a year after 9999 with a sign and six digits, like +012024"),
+    (Reason::MonthRange, 6, b"1709369280", "a Unix time is not read; convert it first"),
     (Reason::MonthRange, 7, b"2024-13-01", ""),
     (Reason::AfterYear, 4, b"2024/03/02", "write `-` instead"),
-    (
-        Reason::AfterColonMinute,
-        16,
-        b"2024-03-02T08:48 +01:00",
-        "remove the space before `+`",
-    ),
-    (
-        Reason::AfterColonMinute,
-        16,
-        b"2024-03-02T08:48 UTC",
-        "write `Z` for UTC",
-    ),
-    (
-        Reason::AfterDate,
-        10,
-        b"2024-03-02\n",
-        "remove the white space at the end",
-    ),
+    (Reason::AfterColonMinute, 16, b"2024-03-02T08:48 +01:00", "remove the space before `+`"),
+    (Reason::AfterColonMinute, 16, b"2024-03-02T08:48 UTC", "write `Z` for UTC"),
+    (Reason::AfterDate, 10, b"2024-03-02\n", "remove the white space at the end"),
     (Reason::AfterDate, 10, b"2024-03-02\xE9", ""),
-    (
-        Reason::KeyStart,
-        16,
-        b"2024-03-02[UTC][Knort=blue]",
-        "write an annotation's key in lower-case letters",
-    ),
-    (
-        Reason::KeyStart,
-        16,
-        b"2024-03-02[UTC][Europe/Rome][a=b]",
-        "",
-    ),
-    (
-        Reason::DateUnitOrder,
-        5,
-        b"P2D5M",
-        "`M` before `T` is months; write `T` before minutes",
-    ),
+    (Reason::KeyStart, 16, b"2024-03-02[UTC][Knort=blue]", "write an annotation's key in lower-case letters"),
+    (Reason::KeyStart, 16, b"2024-03-02[UTC][Europe/Rome][a=b]", ""),
+    (Reason::DateUnitOrder, 5, b"P2D5M", "`M` before `T` is months; write `T` before minutes"),
 ];
 
 #[test]

@@ -1,23 +1,19 @@
 //! Tests of durations: they are printed as canonical texts, and these texts are read back.
 
+use super::check;
+use super::printing::{check_shown, is_untouched};
 use super::wide::Wide;
-use super::{check, check_displayed};
 use ixdtf::encoding::Utf16;
 use ixdtf::parsers::{IsoDurationParser, Profile};
 use ixdtf::records::{DurationParseRecord, Sign};
 use ixdtf_print::{
     CanonicalDuration, PrintError, duration_length, print_duration, print_duration_utf16,
 };
-use std::alloc::Global;
 use std::process::Abort;
 use std::test::Fail;
 
 /// Bytes to which nothing was printed.
 const UNTOUCHED: [u8; 512] = [7; 512];
-
-fn is_untouched(bytes: &[u8]) -> bool {
-    bytes.iter().all(|byte| *byte == 7)
-}
 
 /// Asserts that the duration is printed as these bytes if the slice has exactly their length. In a slice with one byte less, it is
 /// not printed.
@@ -152,23 +148,20 @@ fn refuses_an_empty_duration(rt: HostRuntime) {
     check(&rt, "its display", shown.is_none());
 }
 
-/// Asserts that `Display` writes `canonical` for the duration of the text, with and without a width and a fill character.
-fn check_shown(rt: &impl Abort, alloc: Global, text: &str, canonical: &str) -> Result<(), Fail> {
-    let Ok(duration) = IsoDurationParser::from_str(text).parse() else {
-        check(rt, text, false);
-        return Ok(());
-    };
-    let Some(shown) = CanonicalDuration::of(&duration) else {
-        check(rt, text, false);
-        return Ok(());
-    };
-    check_displayed(rt, alloc, &shown, canonical)
-}
-
 #[test]
 fn displays_canonical_durations(rt: HostRuntime) -> Result<(), Fail> {
     for (text, canonical) in CANONICAL_DURATIONS {
-        check_shown(&rt, rt.alloc(), text, canonical)?;
+        match IsoDurationParser::from_str(text).parse() {
+            Ok(duration) => {
+                check_shown(
+                    &rt,
+                    rt.alloc(),
+                    &CanonicalDuration::of(&duration),
+                    canonical,
+                )?;
+            }
+            Err(_) => check(&rt, text, false),
+        }
     }
     Ok(())
 }

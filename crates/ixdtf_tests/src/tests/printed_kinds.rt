@@ -2,18 +2,20 @@
 
 ghost use Rattle.std.specs.Prelude.{◌≤◌};
 
+use super::printing::{check_shown, is_untouched};
 use super::wide::Wide;
-use super::{check, check_displayed};
+use super::{Found, Parsers, Reader, check};
+use ixdtf::ParserResult;
 use ixdtf::encoding::{Utf8, Utf16};
-use ixdtf::parsers::{IxdtfParser, Profile, TimeZoneParser};
+use ixdtf::parsers::{IxdtfParser, Profile};
 use ixdtf::records::{IxdtfParseRecord, TimeZoneRecord};
 use ixdtf_print::{
-    CanonicalMonthDay, CanonicalOffset, CanonicalTime, CanonicalYearMonth, CanonicalZone,
-    PrintError, month_day_length, month_day_length_utf16, offset_length, print_month_day,
-    print_month_day_utf16, print_offset, print_offset_utf16, print_time, print_time_utf16,
-    print_utf16, print_year_month, print_year_month_utf16, print_zone, print_zone_utf16,
-    printed_length_utf16, time_length, time_length_utf16, year_month_length,
-    year_month_length_utf16, zone_length, zone_length_utf16,
+    Canonical, CanonicalMonthDay, CanonicalOffset, CanonicalTime, CanonicalYearMonth,
+    CanonicalZone, PrintError, month_day_length, month_day_length_utf16, offset_length, print,
+    print_month_day, print_month_day_utf16, print_offset, print_offset_utf16, print_time,
+    print_time_utf16, print_utf16, print_year_month, print_year_month_utf16, print_zone,
+    print_zone_utf16, printed_length, printed_length_utf16, time_length, time_length_utf16,
+    year_month_length, year_month_length_utf16, zone_length, zone_length_utf16,
 };
 use std::alloc::Global;
 use std::process::Abort;
@@ -25,10 +27,6 @@ const UNTOUCHED: [u8; 64] = [7; 64];
 /// Code units to which nothing was printed.
 const UNTOUCHED_UNITS: [u16; 64] = [7; 64];
 
-fn is_untouched(bytes: &[u8]) -> bool {
-    bytes.iter().all(|byte| *byte == 7)
-}
-
 /// Returns a number of bytes that is one too small for the text.
 fn too_few(canonical: &str) -> usize
     ensures { result ≤ 63 }
@@ -36,33 +34,89 @@ fn too_few(canonical: &str) -> usize
     canonical.len().min(64).saturating_sub(1)
 }
 
-/// Asserts that this text was printed and its length counted, and that the bytes after it are unchanged.
-fn check_printed(
-    rt: &impl Abort,
-    canonical: &str,
-    printed: Result<usize, PrintError>,
-    out: &[u8; 64],
-    length: Option<usize>,
-) {
-    let count = canonical.len().min(64);
-    let is_counted = printed == Ok(canonical.len()) && length == Some(canonical.len());
-    let is_printed = &out[..count] == canonical.as_bytes() && is_untouched(&out[count..]);
-    check(rt, canonical, is_counted && is_printed);
+/// What a printer returned, and the length that was counted.
+type Printed = (Result<usize, PrintError>, Option<usize>);
+
+/// Prints the value that the reader returned, and counts the length of its text.
+fn print_found(reader: Reader, found: &Found<'_, Utf8>, out: &mut [u8]) -> Printed {
+    match (reader, found) {
+        (Reader::Parse, Found::Parts(it)) => (print(it, out), printed_length(it)),
+        (Reader::Time, Found::Parts(it)) => (print_time(it, out), time_length(it)),
+        (Reader::YearMonth, Found::Parts(it)) => (print_year_month(it, out), year_month_length(it)),
+        (Reader::MonthDay, Found::Parts(it)) => (print_month_day(it, out), month_day_length(it)),
+        (Reader::Offset, Found::Offset(it)) => (print_offset(it, out), offset_length(it)),
+        (Reader::Identifier, Found::Zone(it)) => (print_zone(it, out), zone_length(it)),
+        _ => (Err(PrintError::NotPrintable), None),
+    }
 }
 
-/// Asserts that the text was printed and counted as 16-bit code units, and that what follows it is unchanged.
-fn check_wide(
+/// Prints the value that the reader returned. The printed text has 16-bit code units. Also counts the length of this text.
+fn print_wide(reader: Reader, found: &Found<'_, Utf16>, out: &mut [u16]) -> Printed {
+    match (reader, found) {
+        (Reader::Parse, Found::Parts(it)) => (print_utf16(it, out), printed_length_utf16(it)),
+        (Reader::Time, Found::Parts(it)) => (print_time_utf16(it, out), time_length_utf16(it)),
+        (Reader::YearMonth, Found::Parts(it)) => {
+            (print_year_month_utf16(it, out), year_month_length_utf16(it))
+        }
+        (Reader::MonthDay, Found::Parts(it)) => {
+            (print_month_day_utf16(it, out), month_day_length_utf16(it))
+        }
+        (Reader::Offset, Found::Offset(it)) => (print_offset_utf16(it, out), offset_length(it)),
+        (Reader::Identifier, Found::Zone(it)) => (print_zone_utf16(it, out), zone_length_utf16(it)),
+        _ => (Err(PrintError::NotPrintable), None),
+    }
+}
+
+/// Asserts that `Display` writes `canonical` for the value that the reader returned.
+fn check_display(
     rt: &impl Abort,
+    alloc: Global,
+    reader: Reader,
+    found: &Found<'_, Utf8>,
     canonical: &str,
+) -> Result<(), Fail> {
+    match (reader, found) {
+        (Reader::Parse, Found::Parts(it)) => check_shown(rt, alloc, &Canonical::of(it), canonical),
+        (Reader::Time, Found::Parts(it)) => {
+            check_shown(rt, alloc, &CanonicalTime::of(it), canonical)
+        }
+        (Reader::YearMonth, Found::Parts(it)) => {
+            check_shown(rt, alloc, &CanonicalYearMonth::of(it), canonical)
+        }
+        (Reader::MonthDay, Found::Parts(it)) => {
+            check_shown(rt, alloc, &CanonicalMonthDay::of(it), canonical)
+        }
+        (Reader::Offset, Found::Offset(it)) => {
+            check_shown(rt, alloc, &CanonicalOffset::of(it), canonical)
+        }
+        (Reader::Identifier, Found::Zone(it)) => {
+            check_shown(rt, alloc, &CanonicalZone::of(it), canonical)
+        }
+        _ => {
+            check(rt, canonical, false);
+            Ok(())
+        }
+    }
+}
+
+/// Returns what the reader returns for a canonical text. A time is read under the strict profile.
+fn read_again(reader: Reader, canonical: &str) -> ParserResult<Found<'_, Utf8>> {
+    let mut parsers = Parsers::from_str(canonical);
+    if let Reader::Time = reader {
+        parsers.dates = IxdtfParser::from_str(canonical).with_profile(Profile::Strict);
+    }
+    parsers.read(reader)
+}
+
+/// Asserts that nothing was printed, with this error.
+fn check_refused(
+    rt: &impl Abort,
+    what: &str,
     printed: Result<usize, PrintError>,
-    out: &[u16; 64],
-    length: Option<usize>,
+    why: PrintError,
+    out: &[u8; 64],
 ) {
-    let count = canonical.len().min(64);
-    let is_counted = printed == Ok(canonical.len()) && length == Some(canonical.len());
-    let is_printed = &out[..count] == Wide::new(canonical).units()
-        && out[count..].iter().all(|unit| *unit == 7);
-    check(rt, canonical, is_counted && is_printed);
+    check(rt, what, printed == Err(why) && is_untouched(out));
 }
 
 /// Asserts that nothing was printed as 16-bit code units, with this error.
@@ -77,241 +131,72 @@ fn check_wide_refused(
     check(rt, what, printed == Err(why) && is_unchanged);
 }
 
-/// Asserts that nothing was printed, with this error.
-fn check_refused(
-    rt: &impl Abort,
-    what: &str,
-    printed: Result<usize, PrintError>,
-    why: PrintError,
-    out: &[u8; 64],
-) {
-    check(rt, what, printed == Err(why) && is_untouched(out));
-}
-
-fn check_offset(rt: &impl Abort, alloc: Global, text: &str, canonical: &str) -> Result<(), Fail> {
-    let Ok(offset) = TimeZoneParser::from_str(text).parse_offset() else {
-        check(rt, text, false);
-        return Ok(());
-    };
-    let mut out = UNTOUCHED;
-    let printed = print_offset(&offset, &mut out);
-    check_printed(rt, canonical, printed, &out, offset_length(&offset));
-    let mut out = UNTOUCHED;
-    let printed = print_offset(&offset, &mut out[..too_few(canonical)]);
-    check_refused(rt, canonical, printed, PrintError::TooShort, &out);
-    let again = TimeZoneParser::from_str(canonical).parse_offset();
-    check(rt, canonical, again == Ok(offset));
-    let mut wide = [7; 64];
-    let short = print_offset_utf16(&offset, &mut wide[..too_few(canonical)]);
-    check(rt, canonical, short == Err(PrintError::TooShort));
-    let Ok(count) = print_offset_utf16(&offset, &mut wide) else {
-        check(rt, text, false);
-        return Ok(());
-    };
-    let again = TimeZoneParser::<Utf16>::new(&wide[..count]).parse_offset();
-    check(rt, canonical, again == Ok(offset));
-    let Some(shown) = CanonicalOffset::of(&offset) else {
-        check(rt, text, false);
-        return Ok(());
-    };
-    check_displayed(rt, alloc, &shown, canonical)
-}
-
-fn check_zone(rt: &impl Abort, alloc: Global, text: &str, canonical: &str) -> Result<(), Fail> {
-    let Ok(zone) = TimeZoneParser::from_str(text).parse_identifier() else {
-        check(rt, text, false);
-        return Ok(());
-    };
-    let mut out = UNTOUCHED;
-    let printed = print_zone(&zone, &mut out);
-    check_printed(rt, canonical, printed, &out, zone_length(&zone));
-    let mut out = UNTOUCHED;
-    let printed = print_zone(&zone, &mut out[..too_few(canonical)]);
-    check_refused(rt, canonical, printed, PrintError::TooShort, &out);
-    let Some(shown) = CanonicalZone::of(&zone) else {
-        check(rt, text, false);
-        return Ok(());
-    };
-    check_displayed(rt, alloc, &shown, canonical)?;
-    let again = TimeZoneParser::from_str(canonical).parse_identifier();
-    check(rt, canonical, again == Ok(zone));
-    Ok(())
-}
-
-/// Asserts that the zone of the 16-bit text is printed as 16-bit code units, and read back from them.
-fn check_wide_zone(rt: &impl Abort, text: &str, canonical: &str) {
-    let text = Wide::new(text);
-    let Ok(zone) = TimeZoneParser::from_utf16(text.units()).parse_identifier() else {
-        check(rt, canonical, false);
-        return;
-    };
-    let mut out = UNTOUCHED_UNITS;
-    let printed = print_zone_utf16(&zone, &mut out);
-    check_wide(rt, canonical, printed, &out, zone_length_utf16(&zone));
-    let mut out = UNTOUCHED_UNITS;
-    let printed = print_zone_utf16(&zone, &mut out[..too_few(canonical)]);
-    check_wide_refused(rt, canonical, printed, PrintError::TooShort, &out);
-    let wide = Wide::new(canonical);
-    let again = TimeZoneParser::from_utf16(wide.units()).parse_identifier();
-    check(rt, canonical, again == Ok(zone));
-}
-
-/// Asserts that the date-time of the 16-bit text is printed as 16-bit code units, and read back from them.
-fn check_wide_date_time(rt: &impl Abort, text: &str, canonical: &str) {
-    let text = Wide::new(text);
-    let Ok(record) = IxdtfParser::from_utf16(text.units()).parse() else {
-        check(rt, canonical, false);
-        return;
-    };
-    let mut out = UNTOUCHED_UNITS;
-    let printed = print_utf16(&record, &mut out);
-    check_wide(rt, canonical, printed, &out, printed_length_utf16(&record));
-    let mut out = UNTOUCHED_UNITS;
-    let printed = print_utf16(&record, &mut out[..too_few(canonical)]);
-    check_wide_refused(rt, canonical, printed, PrintError::TooShort, &out);
-    let wide = Wide::new(canonical);
-    let again = IxdtfParser::from_utf16(wide.units()).parse();
-    check(rt, canonical, again == Ok(record));
-}
-
-/// Asserts that the time of the 16-bit text is printed as 16-bit code units, and read back from them.
-fn check_wide_time(rt: &impl Abort, text: &str, canonical: &str) {
-    let text = Wide::new(text);
-    let Ok(record) = IxdtfParser::from_utf16(text.units()).parse_time() else {
-        check(rt, canonical, false);
-        return;
-    };
-    let mut out = UNTOUCHED_UNITS;
-    let printed = print_time_utf16(&record, &mut out);
-    check_wide(rt, canonical, printed, &out, time_length_utf16(&record));
-    let mut out = UNTOUCHED_UNITS;
-    let printed = print_time_utf16(&record, &mut out[..too_few(canonical)]);
-    check_wide_refused(rt, canonical, printed, PrintError::TooShort, &out);
-    let wide = Wide::new(canonical);
-    let again = IxdtfParser::from_utf16(wide.units()).parse_time();
-    check(rt, canonical, again == Ok(record));
-}
-
-/// Asserts that the year-month of the 16-bit text is printed as 16-bit code units, and read back from them.
-fn check_wide_year_month(rt: &impl Abort, text: &str, canonical: &str) {
-    let text = Wide::new(text);
-    let Ok(record) = IxdtfParser::from_utf16(text.units()).parse_year_month() else {
-        check(rt, canonical, false);
-        return;
-    };
-    let mut out = UNTOUCHED_UNITS;
-    let printed = print_year_month_utf16(&record, &mut out);
-    check_wide(
-        rt,
-        canonical,
-        printed,
-        &out,
-        year_month_length_utf16(&record),
-    );
-    let mut out = UNTOUCHED_UNITS;
-    let printed = print_year_month_utf16(&record, &mut out[..too_few(canonical)]);
-    check_wide_refused(rt, canonical, printed, PrintError::TooShort, &out);
-    let wide = Wide::new(canonical);
-    let again = IxdtfParser::from_utf16(wide.units()).parse_year_month();
-    check(rt, canonical, again == Ok(record));
-}
-
-/// Asserts that the month-day of the 16-bit text is printed as 16-bit code units, and read back from them.
-fn check_wide_month_day(rt: &impl Abort, text: &str, canonical: &str) {
-    let text = Wide::new(text);
-    let Ok(record) = IxdtfParser::from_utf16(text.units()).parse_month_day() else {
-        check(rt, canonical, false);
-        return;
-    };
-    let mut out = UNTOUCHED_UNITS;
-    let printed = print_month_day_utf16(&record, &mut out);
-    check_wide(
-        rt,
-        canonical,
-        printed,
-        &out,
-        month_day_length_utf16(&record),
-    );
-    let mut out = UNTOUCHED_UNITS;
-    let printed = print_month_day_utf16(&record, &mut out[..too_few(canonical)]);
-    check_wide_refused(rt, canonical, printed, PrintError::TooShort, &out);
-    let wide = Wide::new(canonical);
-    let again = IxdtfParser::from_utf16(wide.units()).parse_month_day();
-    check(rt, canonical, again == Ok(record));
-}
-
-fn check_time(rt: &impl Abort, alloc: Global, text: &str, canonical: &str) -> Result<(), Fail> {
-    let Ok(record) = IxdtfParser::from_str(text).parse_time() else {
-        check(rt, text, false);
-        return Ok(());
-    };
-    let mut out = UNTOUCHED;
-    let printed = print_time(&record, &mut out);
-    check_printed(rt, canonical, printed, &out, time_length(&record));
-    let mut out = UNTOUCHED;
-    let printed = print_time(&record, &mut out[..too_few(canonical)]);
-    check_refused(rt, canonical, printed, PrintError::TooShort, &out);
-    let Some(shown) = CanonicalTime::of(&record) else {
-        check(rt, text, false);
-        return Ok(());
-    };
-    check_displayed(rt, alloc, &shown, canonical)?;
-    let again = IxdtfParser::from_str(canonical)
-        .with_profile(Profile::Strict)
-        .parse_time();
-    check(rt, canonical, again == Ok(record));
-    Ok(())
-}
-
-fn check_year_month(
+/// Asserts that the value that the reader returns for the text is printed as `canonical`, displayed, and read back. Also asserts
+/// that the value is not printed to a slice that is one byte too short.
+fn check_printed(
     rt: &impl Abort,
     alloc: Global,
+    reader: Reader,
     text: &str,
     canonical: &str,
 ) -> Result<(), Fail> {
-    let Ok(record) = IxdtfParser::from_str(text).parse_year_month() else {
+    let Ok(found) = Parsers::from_str(text).read(reader) else {
         check(rt, text, false);
         return Ok(());
     };
     let mut out = UNTOUCHED;
-    let printed = print_year_month(&record, &mut out);
-    check_printed(rt, canonical, printed, &out, year_month_length(&record));
+    let (printed, length) = print_found(reader, &found, &mut out);
+    let is_counted = printed == Ok(canonical.len()) && length == Some(canonical.len());
+    check(rt, canonical, is_counted);
+    let (front, rest) = out.split_at(canonical.len().min(64));
+    check(
+        rt,
+        canonical,
+        front == canonical.as_bytes() && is_untouched(rest),
+    );
     let mut out = UNTOUCHED;
-    let printed = print_year_month(&record, &mut out[..too_few(canonical)]);
+    let (printed, _length) = print_found(reader, &found, &mut out[..too_few(canonical)]);
     check_refused(rt, canonical, printed, PrintError::TooShort, &out);
-    let Some(shown) = CanonicalYearMonth::of(&record) else {
-        check(rt, text, false);
-        return Ok(());
-    };
-    check_displayed(rt, alloc, &shown, canonical)?;
-    let again = IxdtfParser::from_str(canonical).parse_year_month();
-    check(rt, canonical, again == Ok(record));
+    check_display(rt, alloc, reader, &found, canonical)?;
+    check(rt, canonical, read_again(reader, canonical) == Ok(found));
     Ok(())
 }
 
-fn check_month_day(
+/// Asserts that the value that the reader returns for the 16-bit text is printed as 16-bit code units, and read back from them.
+/// Also asserts that the value is not printed to a slice that is one code unit too short.
+fn check_printed_wide(rt: &impl Abort, reader: Reader, text: &str, canonical: &str) {
+    let text = Wide::new(text);
+    let Ok(found) = Parsers::from_utf16(text.units()).read(reader) else {
+        check(rt, canonical, false);
+        return;
+    };
+    let wide = Wide::new(canonical);
+    let mut out = UNTOUCHED_UNITS;
+    let (printed, length) = print_wide(reader, &found, &mut out);
+    let is_counted = printed == Ok(canonical.len()) && length == Some(canonical.len());
+    check(rt, canonical, is_counted);
+    let (front, rest) = out.split_at(canonical.len().min(64));
+    let is_unchanged = rest.iter().all(|unit| *unit == 7);
+    check(rt, canonical, front == wide.units() && is_unchanged);
+    let mut out = UNTOUCHED_UNITS;
+    let (printed, _length) = print_wide(reader, &found, &mut out[..too_few(canonical)]);
+    check_wide_refused(rt, canonical, printed, PrintError::TooShort, &out);
+    let again = Parsers::from_utf16(wide.units()).read(reader);
+    check(rt, canonical, again == Ok(found));
+}
+
+/// Asserts that the value of each text is printed as the canonical text in the same row. This is tested with 8-bit text and with
+/// 16-bit text.
+fn check_each_printed(
     rt: &impl Abort,
     alloc: Global,
-    text: &str,
-    canonical: &str,
+    reader: Reader,
+    rows: &[(&'static str, &'static str)],
 ) -> Result<(), Fail> {
-    let Ok(record) = IxdtfParser::from_str(text).parse_month_day() else {
-        check(rt, text, false);
-        return Ok(());
-    };
-    let mut out = UNTOUCHED;
-    let printed = print_month_day(&record, &mut out);
-    check_printed(rt, canonical, printed, &out, month_day_length(&record));
-    let mut out = UNTOUCHED;
-    let printed = print_month_day(&record, &mut out[..too_few(canonical)]);
-    check_refused(rt, canonical, printed, PrintError::TooShort, &out);
-    let Some(shown) = CanonicalMonthDay::of(&record) else {
-        check(rt, text, false);
-        return Ok(());
-    };
-    check_displayed(rt, alloc, &shown, canonical)?;
-    let again = IxdtfParser::from_str(canonical).parse_month_day();
-    check(rt, canonical, again == Ok(record));
+    for (text, canonical) in rows {
+        check_printed(rt, alloc, reader, text, canonical)?;
+        check_printed_wide(rt, reader, text, canonical);
+    }
     Ok(())
 }
 
@@ -365,38 +250,20 @@ const CANONICAL_MONTH_DAYS: &[(&str, &str)] = &[
 
 #[test]
 fn prints_canonical_offsets_and_zones(rt: HostRuntime) -> Result<(), Fail> {
-    for (text, canonical) in CANONICAL_OFFSETS {
-        check_offset(&rt, rt.alloc(), text, canonical)?;
-    }
-    for (text, canonical) in CANONICAL_ZONES {
-        check_zone(&rt, rt.alloc(), text, canonical)?;
-        check_wide_zone(&rt, text, canonical);
-    }
-    Ok(())
+    check_each_printed(&rt, rt.alloc(), Reader::Offset, CANONICAL_OFFSETS)?;
+    check_each_printed(&rt, rt.alloc(), Reader::Identifier, CANONICAL_ZONES)
 }
 
 #[test]
 fn prints_canonical_times_and_months(rt: HostRuntime) -> Result<(), Fail> {
-    for (text, canonical) in CANONICAL_TIMES {
-        check_time(&rt, rt.alloc(), text, canonical)?;
-        check_wide_time(&rt, text, canonical);
-    }
-    for (text, canonical) in CANONICAL_YEAR_MONTHS {
-        check_year_month(&rt, rt.alloc(), text, canonical)?;
-        check_wide_year_month(&rt, text, canonical);
-    }
-    for (text, canonical) in CANONICAL_MONTH_DAYS {
-        check_month_day(&rt, rt.alloc(), text, canonical)?;
-        check_wide_month_day(&rt, text, canonical);
-    }
-    Ok(())
+    check_each_printed(&rt, rt.alloc(), Reader::Time, CANONICAL_TIMES)?;
+    check_each_printed(&rt, rt.alloc(), Reader::YearMonth, CANONICAL_YEAR_MONTHS)?;
+    check_each_printed(&rt, rt.alloc(), Reader::MonthDay, CANONICAL_MONTH_DAYS)
 }
 
 #[test]
-fn prints_wide_date_times(rt: HostRuntime) {
-    for (text, canonical) in CANONICAL_DATE_TIMES {
-        check_wide_date_time(&rt, text, canonical);
-    }
+fn prints_wide_date_times(rt: HostRuntime) -> Result<(), Fail> {
+    check_each_printed(&rt, rt.alloc(), Reader::Parse, CANONICAL_DATE_TIMES)
 }
 
 /// Names of 16-bit code units that no text has. The number of the code unit 353 has the low byte of `a`.

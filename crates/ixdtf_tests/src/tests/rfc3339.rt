@@ -1,7 +1,7 @@
 //! Tests of date-times of RFC 3339, and of texts that are not.
 
 use super::{
-    AT_DATE, AT_DIGIT, AT_OFFSET, Found, Parsers, Reader, Refused, check_found, check_reader,
+    AT_DATE, AT_DIGIT, AT_OFFSET, Found, Reader, Refused, check_found, check_read_alike,
     check_refused, minutes, morning, parts, timed,
 };
 use ixdtf::ParseError::{
@@ -57,11 +57,7 @@ const READ_ALIKE: &[&str] = &[
 /// Tests that `parse_rfc3339` returns the record that `parse` returns.
 #[test]
 fn reads_as_parse_does(rt: HostRuntime) {
-    for text in READ_ALIKE {
-        let read = Parsers::from_str(text).read(Reader::Rfc3339);
-        let is_same = read.is_ok() && read == Parsers::from_str(text).read(Reader::Parse);
-        check_reader(&rt, Reader::Rfc3339, text, is_same);
-    }
+    check_read_alike(&rt, Reader::Rfc3339, READ_ALIKE);
 }
 
 #[rattlefmt::skip]

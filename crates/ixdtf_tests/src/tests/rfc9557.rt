@@ -1,8 +1,8 @@
 //! Tests of texts of RFC 9557, and of texts that are not.
 
 use super::{
-    AT_BRACKET, AT_DATE, AT_DIGIT, AT_OFFSET, Found, Parsers, Reader, Refused, check_found,
-    check_reader, check_refused, morning,
+    AT_BRACKET, AT_DATE, AT_DIGIT, AT_OFFSET, Found, Reader, Refused, check_found,
+    check_read_alike, check_refused, morning,
 };
 use ixdtf::ParseError::{
     AnnotationClose, AnnotationKeyLeadingChar, AnnotationKeyValueSeparator, AnnotationValueChar,
@@ -42,11 +42,7 @@ const READ_ALIKE: &[&str] = &[
 /// Tests that `parse_rfc9557` returns the record that `parse` returns.
 #[test]
 fn reads_as_parse_does(rt: HostRuntime) {
-    for text in READ_ALIKE {
-        let read = Parsers::from_str(text).read(Reader::Rfc9557);
-        let is_same = read.is_ok() && read == Parsers::from_str(text).read(Reader::Parse);
-        check_reader(&rt, Reader::Rfc9557, text, is_same);
-    }
+    check_read_alike(&rt, Reader::Rfc9557, READ_ALIKE);
 }
 
 #[rattlefmt::skip]

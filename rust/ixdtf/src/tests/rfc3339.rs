@@ -6,7 +6,7 @@
 use crate::runtime::{HostRuntime, TryClone};
 
 use super::{
-    AT_DATE, AT_DIGIT, AT_OFFSET, Found, Parsers, Reader, Refused, check_found, check_reader,
+    AT_DATE, AT_DIGIT, AT_OFFSET, Found, Reader, Refused, check_found, check_read_alike,
     check_refused, minutes, morning, parts, timed,
 };
 use ixdtf::ParseError::{
@@ -64,11 +64,7 @@ const READ_ALIKE: &[&str] = &[
 #[test]
 fn reads_as_parse_does() {
     let rt = HostRuntime;
-    for text in READ_ALIKE {
-        let read = Parsers::from_str(text).read(Reader::Rfc3339);
-        let is_same = read.is_ok() && read == Parsers::from_str(text).read(Reader::Parse);
-        check_reader(&rt, Reader::Rfc3339, text, is_same);
-    }
+    check_read_alike(&rt, Reader::Rfc3339, READ_ALIKE);
 }
 
 const REFUSED: &[Refused] = &[

@@ -1,16 +1,10 @@
 use Rattle.ixdtf_c.proofs.pointed.add_characters.Goals as goal
-use Rattle.std.proofs.Common.{◌≡◌, ℕ, List, [], ◌∷◌, ◌++◌, map, take, drop, sym, ap, ◌∙◌, append-nil}
-use Rattle.std.proofs.lemmas.{Iterator.{YieldsList-from_chars, YieldsList-from_take, Adapters.YieldsList-from_skip, Consumers.YieldsList-end}, List.{map-append, map-id}, Str.encodes-append}
-use Rattle.std.specs.{Char.encode_utf8, Str.{chars, encode_utf8_all}}
+use Rattle.std.proofs.Common.{◌≡◌, map, take, drop, sym, ap, ◌∙◌}
+use Rattle.std.proofs.lemmas.{Iterator.{YieldsList-from_chars, YieldsList-from_take, Adapters.YieldsList-from_skip, Consumers.YieldsList-end}, List.map-id}
+use Rattle.std.specs.Str.{chars, encode_utf8_all}
 use Rattle.ixdtf_grammar.specs.LocatedTexts.{shown}
+use Rattle.ixdtf_grammar.proofs.code.Pointed.{one_more}
 use Rattle.ixdtf_c.proofs.Added.{adds_as, adds_then}
-
--- One more character is added after the others.
-one_more : (cs : List ℕ) (c : ℕ) → encode_utf8_all (map shown cs) ++ encode_utf8 (shown c) ≡ encode_utf8_all (map shown (cs ++ c ∷ []))
-one_more cs c =
-    ap (λ l. encode_utf8_all (map shown cs) ++ l) (sym (append-nil (encode_utf8 (shown c))))
-    ∙ sym (encodes-append (map shown cs) (shown c ∷ []))
-    ∙ ap encode_utf8_all (sym (map-append shown cs (c ∷ [])))
 
 pub loop-character-preserved : goal.loop-character-preserved
 loop-character-preserved c = adds_as (one_more c.loop-character.yielded c.in-Some.character) (adds_then c.loop-character.invariant c.add_character-end.ensures)

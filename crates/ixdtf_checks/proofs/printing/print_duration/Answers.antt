@@ -6,15 +6,11 @@ use Rattle.ixdtf_print.proofs.theorems.PrintableDurations.{duration_fits, durati
 
 pub print_duration-requires : goal.print_duration-requires
 print_duration-requires c =
-    let found = c.in-Ok.duration in
-    let given = rw (c.duration_parser.ensures.profile, c.duration_parser.ensures.rest) at ((c.in-Ok.ensures.reads.ok found).0 refl) in
-    (omega arith, (duration_printable c.args.profile found (byte_text c.args.text.now, given), omega (arith, duration_fits c.args.profile (byte_text c.args.text.now) found given, length-map c.args.text.now byte_letter, c.requires)))
+    let given = rw (c.duration_parser.ensures.profile, c.duration_parser.ensures.rest) at ((c.in-Ok.ensures.reads.ok _).0 refl) in
+    (omega arith, (duration_printable c.args.profile _ (byte_text c.args.text.now, given), omega (arith, duration_fits c.args.profile (byte_text c.args.text.now) _ given, length-map c.args.text.now byte_letter, c.requires)))
 
 pub returns-in-Ok : goal.returns-in-Ok
-returns-in-Ok c =
-    let found = c.in-Ok.duration in
-    let given = rw (c.duration_parser.ensures.profile, c.duration_parser.ensures.rest) at ((c.in-Ok.ensures.reads.ok found).0 refl) in
-    record { ok = (found, given, c.print_duration.ensures); err = tt }
+returns-in-Ok c = record { ok = (_, rw (c.duration_parser.ensures.profile, c.duration_parser.ensures.rest) at ((c.in-Ok.ensures.reads.ok _).0 refl), c.print_duration.ensures); err = tt }
 
 pub returns-in-Err : goal.returns-in-Err
 returns-in-Err c = record { ok = tt; err = rw (← c.duration_parser.ensures.profile, ← c.duration_parser.ensures.rest) (c.in-Err.ensures.reads.err, c.in-Err.ensures.reads.reason) }

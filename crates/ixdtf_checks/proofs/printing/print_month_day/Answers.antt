@@ -2,20 +2,15 @@
 use Rattle.ixdtf_checks.proofs.printing.print_month_day.Goals as goal
 use Rattle.std.proofs.{Common.{refl, arith}, lemmas.List.length-map}
 use Rattle.ixdtf_grammar.specs.{Widths.byte_text, language.Letters.byte_letter}
-use Rattle.ixdtf_grammar.specs.Views.{parsed_of}
 use Rattle.ixdtf_print.proofs.theorems.PrintableMonthDays.{month_day_fits, month_day_printable}
 
 pub print_month_day-requires : goal.print_month_day-requires
 print_month_day-requires c =
-    let found = parsed_of (λ byte. byte) c.in-Ok.parts in
-    let given = rw (c.parser.ensures.profile, c.parser.ensures.rest) at ((c.in-Ok.ensures.reads.ok found).0 refl) in
-    (omega arith, (month_day_printable c.args.profile found (byte_text c.args.text.now, given), omega (arith, month_day_fits c.args.profile (byte_text c.args.text.now) found given, length-map c.args.text.now byte_letter, c.requires)))
+    let given = rw (c.parser.ensures.profile, c.parser.ensures.rest) at ((c.in-Ok.ensures.reads.ok _).0 refl) in
+    (omega arith, (month_day_printable c.args.profile _ (byte_text c.args.text.now, given), omega (arith, month_day_fits c.args.profile (byte_text c.args.text.now) _ given, length-map c.args.text.now byte_letter, c.requires)))
 
 pub returns-in-Ok : goal.returns-in-Ok
-returns-in-Ok c =
-    let found = parsed_of (λ byte. byte) c.in-Ok.parts in
-    let given = rw (c.parser.ensures.profile, c.parser.ensures.rest) at ((c.in-Ok.ensures.reads.ok found).0 refl) in
-    record { ok = (found, given, c.print_month_day.ensures); err = tt }
+returns-in-Ok c = record { ok = (_, rw (c.parser.ensures.profile, c.parser.ensures.rest) at ((c.in-Ok.ensures.reads.ok _).0 refl), c.print_month_day.ensures); err = tt }
 
 pub returns-in-Err : goal.returns-in-Err
 returns-in-Err c = record { ok = tt; err = rw (← c.parser.ensures.profile, ← c.parser.ensures.rest) (c.in-Err.ensures.reads.err, c.in-Err.ensures.reads.reason) }

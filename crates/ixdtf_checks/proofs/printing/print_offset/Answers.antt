@@ -6,15 +6,11 @@ use Rattle.ixdtf_print.proofs.theorems.PrintableOffsets.{offset_fits}
 
 pub print_offset-requires : goal.print_offset-requires
 print_offset-requires c =
-    let found = c.in-Ok.offset in
-    let given = rw c.from_utf8.ensures.rest at ((c.in-Ok.ensures.reads.ok found).0 refl) in
-    (omega arith, ((byte_text c.args.text.now, given), omega (arith, offset_fits (byte_text c.args.text.now) found given, length-map c.args.text.now byte_letter, c.requires)))
+    let given = rw c.from_utf8.ensures.rest at ((c.in-Ok.ensures.reads.ok _).0 refl) in
+    (omega arith, ((byte_text c.args.text.now, given), omega (arith, offset_fits (byte_text c.args.text.now) _ given, length-map c.args.text.now byte_letter, c.requires)))
 
 pub returns-in-Ok : goal.returns-in-Ok
-returns-in-Ok c =
-    let found = c.in-Ok.offset in
-    let given = rw c.from_utf8.ensures.rest at ((c.in-Ok.ensures.reads.ok found).0 refl) in
-    record { ok = (found, given, c.print_offset.ensures); err = tt }
+returns-in-Ok c = record { ok = (_, rw c.from_utf8.ensures.rest at ((c.in-Ok.ensures.reads.ok _).0 refl), c.print_offset.ensures); err = tt }
 
 pub returns-in-Err : goal.returns-in-Err
 returns-in-Err c = record { ok = tt; err = rw (← c.from_utf8.ensures.rest) (c.in-Err.ensures.reads.err, c.in-Err.ensures.reads.reason) }

@@ -2,19 +2,15 @@
 use Rattle.ixdtf_checks.proofs.printing.print_zone.Goals as goal
 use Rattle.std.proofs.{Common.{refl, arith}, lemmas.List.length-map}
 use Rattle.ixdtf_grammar.specs.{Widths.byte_text, language.Letters.byte_letter}
-use Rattle.ixdtf_print.{specs.Zones.zone_in, proofs.theorems.PrintableZones.zone_fits}
+use Rattle.ixdtf_print.proofs.theorems.PrintableZones.{zone_fits}
 
 pub print_zone-requires : goal.print_zone-requires
 print_zone-requires c =
-    let found = zone_in c.in-Ok.zone in
-    let given = rw c.from_utf8.ensures.rest at ((c.in-Ok.ensures.reads.ok found).0 refl) in
-    (omega arith, ((byte_text c.args.text.now, given), omega (arith, zone_fits (byte_text c.args.text.now) found given, length-map c.args.text.now byte_letter, c.requires)))
+    let given = rw c.from_utf8.ensures.rest at ((c.in-Ok.ensures.reads.ok _).0 refl) in
+    (omega arith, ((byte_text c.args.text.now, given), omega (arith, zone_fits (byte_text c.args.text.now) _ given, length-map c.args.text.now byte_letter, c.requires)))
 
 pub returns-in-Ok : goal.returns-in-Ok
-returns-in-Ok c =
-    let found = zone_in c.in-Ok.zone in
-    let given = rw c.from_utf8.ensures.rest at ((c.in-Ok.ensures.reads.ok found).0 refl) in
-    record { ok = (found, given, c.print_zone.ensures); err = tt }
+returns-in-Ok c = record { ok = (_, rw c.from_utf8.ensures.rest at ((c.in-Ok.ensures.reads.ok _).0 refl), c.print_zone.ensures); err = tt }
 
 pub returns-in-Err : goal.returns-in-Err
 returns-in-Err c = record { ok = tt; err = rw (← c.from_utf8.ensures.rest) (c.in-Err.ensures.reads.err, c.in-Err.ensures.reads.reason) }

@@ -12,10 +12,7 @@ print_zone-requires c =
     (omega arith, ((byte_text c.args.text.now, name_identifies (byte_text c.args.text.now) found given), omega (arith, zone_fits (byte_text c.args.text.now) (Name found) (name_identifies (byte_text c.args.text.now) found given), length-map c.args.text.now byte_letter, c.requires)))
 
 pub returns-in-Ok : goal.returns-in-Ok
-returns-in-Ok c =
-    let found = map (λ byte. byte) c.in-Ok.name.now in
-    let given = rw c.from_utf8.ensures.rest at ((c.in-Ok.ensures.reads.ok found).0 refl) in
-    record { ok = (found, given, c.print_zone.ensures); err = tt }
+returns-in-Ok c = record { ok = (_, rw c.from_utf8.ensures.rest at ((c.in-Ok.ensures.reads.ok _).0 refl), c.print_zone.ensures); err = tt }
 
 pub returns-in-Err : goal.returns-in-Err
 returns-in-Err c = record { ok = tt; err = rw (← c.from_utf8.ensures.rest) (c.in-Err.ensures.reads.err, c.in-Err.ensures.reads.reason) }

@@ -5,10 +5,8 @@ use Rattle.ixdtf_durations.specs.reading.DurationClauses.{rank_seen}
 use Rattle.ixdtf_reading.proofs.code.Tables.{agree_below, listed_from, in_table}
 use Rattle.ixdtf_durations.proofs.code.DurationRanks.{rank_small}
 
-pub returns-clause-rank : goal.returns-clause-rank
+pub returns : goal.returns
 unfolding agree_below listed_from
-returns-clause-rank c = in_table (rank_seen date) refl c.args.letter (omega arith)
-
-pub returns-clause-small : goal.returns-clause-small
-unfolding agree_below listed_from
-returns-clause-small c = rw (in_table (rank_seen date) refl c.args.letter (omega arith)) (rank_small date 4 refl c.args.letter (omega arith))
+returns c =
+    let is = in_table (rank_seen date) refl c.args.letter (omega arith) in
+    record { rank = is; small = rw is (rank_small date 4 refl c.args.letter (omega arith)) }

@@ -1,6 +1,6 @@
 use Rattle.ixdtf_durations.proofs.duration.parse_after_designator.Goals as goal
 use Rattle.ixdtf_grammar.specs.declared.reason.Reason.TheVariants as reasons
-use Rattle.std.proofs.{Common.{◌≡◌, ℕ, [], List, map, drop, Some, None, Ok, true, false, rules, refl, ap, ◌∙◌, arith}, lemmas.Result.err_from_is_err_and}
+use Rattle.std.proofs.{Common.{◌≡◌, [], map, Some, None, Ok, false, rules, refl, arith}, lemmas.Result.err_from_is_err_and}
 use Rattle.ixdtf_grammar.specs.{language.Letters.{digit, time_letter}, table.DurationFronts.Context.in_dates}
 use Rattle.ixdtf_reading.specs.reading.Looks.{seen}
 use Rattle.ixdtf_reading.proofs.code.FractionLoop.{one_taken}
@@ -16,22 +16,14 @@ returns-in_err-byte-clause-duration g c =
 -- The next code unit is `T` or `t`.
 pub returns-in-Some-clause-duration : goal.returns-in-Some-clause-duration
 returns-in-Some-clause-duration g c =
-    let found : seen reasons.AfterDurationDesignator (map g.T.EncodingType.letter c.args.cursor.now.rest) ≡ Ok (Some c.in-Some.byte) =
-    cc (c.in_ok-byte.ensures.letter, c.in-Some.is) in
-    let is : time_letter c.in-Some.byte ≡ true = search rules in
-    let left : map g.T.EncodingType.letter c.advance.new.self.rest ≡ drop 1 (map g.T.EncodingType.letter c.args.cursor.now.rest) =
-    c.advance.ensures.letters ∙ ap (λ (t : List ℕ). drop 1 (map g.T.EncodingType.letter t)) c.in_ok-byte.ensures.rest in
-    reads_on_earlier _ _ _ _ c.args.cursor.now c.advance.new.self _ _ _ (to_mark _ _ _ _ _ found is left c.args.sign []) (c.parse_times.ensures.duration [] refl)
+    let off = one_taken {letter = g.T.EncodingType.letter} c.in_ok-byte.ensures.letter c.in-Some.is c.in_ok-byte.ensures.rest c.advance.ensures.rest in
+    reads_on_earlier _ _ _ _ c.args.cursor.now c.advance.new.self _ _ _ (to_mark _ _ _ _ _ off.found (search rules) off.left c.args.sign []) (c.parse_times.ensures.duration [] refl)
 
 -- A group begins.
 pub returns-in-Some-2-clause-duration : goal.returns-in-Some-2-clause-duration
 returns-in-Some-2-clause-duration g c =
-    let found : seen reasons.AfterDurationDesignator (map g.T.EncodingType.letter c.args.cursor.now.rest) ≡ Ok (Some c.in-Some.byte) =
-    cc (c.in_ok-byte.ensures.letter, c.in-Some.is) in
-    let is : digit c.in-Some.byte ≡ true = search rules in
-    let left : map g.T.EncodingType.letter c.advance-in-Some-2.new.self.rest ≡ drop 1 (map g.T.EncodingType.letter c.args.cursor.now.rest) =
-    c.advance-in-Some-2.ensures.letters ∙ ap (λ (t : List ℕ). drop 1 (map g.T.EncodingType.letter t)) c.in_ok-byte.ensures.rest in
-    reads_on_earlier _ _ _ _ c.args.cursor.now c.advance-in-Some-2.new.self _ _ _ (to_digit _ _ _ _ _ found is left (in_dates c.args.sign []))
+    let off = one_taken {letter = g.T.EncodingType.letter} c.in_ok-byte.ensures.letter c.in-Some.is c.in_ok-byte.ensures.rest c.advance-in-Some-2.ensures.rest in
+    reads_on_earlier _ _ _ _ c.args.cursor.now c.advance-in-Some-2.new.self _ _ _ (to_digit _ _ _ _ _ off.found (search rules) off.left (in_dates c.args.sign []))
     c.parse_dated.ensures.duration
 
 pub returns-in-Some-2-clause-looks : goal.returns-in-Some-2-clause-looks

@@ -1,8 +1,8 @@
 use Rattle.ixdtf_durations.proofs.duration.parse_times.Goals as goal
 use Rattle.ixdtf_grammar.specs.declared.reason.Reason.TheVariants as reasons
-use Rattle.std.proofs.{Common.{◌≡◌, ℕ, [], List, map, drop, Some, None, Ok, true, false, rules, ap, ◌∙◌}, lemmas.Result.err_from_is_err_and}
+use Rattle.std.proofs.{Common.{◌≡◌, [], map, Some, None, Ok, false, rules, ◌∙◌}, lemmas.Result.err_from_is_err_and}
 use Rattle.ixdtf_grammar.specs.{language.Letters.digit, table.DurationFronts.Context.in_times}
-use Rattle.ixdtf_reading.specs.reading.Looks.{seen}
+use Rattle.ixdtf_reading.{specs.reading.Looks.seen, proofs.code.FractionLoop.one_taken}
 use Rattle.ixdtf_durations.proofs.code.DurationSteps.{fails, to_digit, times_at_end, times_at_other}
 use Rattle.ixdtf_durations.proofs.duration.parse_times.Goals.{in_default-via-in-Some+else-is_ascii_digit, in_default-via-in_default}
 
@@ -15,22 +15,14 @@ returns-in_err-byte-clause-duration g c dates is =
 -- Time groups were read.
 pub returns-in-Ok-clause-duration : goal.returns-in-Ok-clause-duration
 returns-in-Ok-clause-duration g c dates is =
-    let found : seen reasons.AfterTimeDesignator (map g.T.EncodingType.letter c.args.cursor.now.rest) ≡ Ok (Some c.in-Some.byte) =
-    cc (c.in_ok-byte.ensures.letter, c.in-Some.is) in
-    let begins : digit c.in-Some.byte ≡ true = search rules in
-    let left : map g.T.EncodingType.letter c.advance.new.self.rest ≡ drop 1 (map g.T.EncodingType.letter c.args.cursor.now.rest) =
-    c.advance.ensures.letters ∙ ap (λ (t : List ℕ). drop 1 (map g.T.EncodingType.letter t)) c.in_ok-byte.ensures.rest in
-    to_digit _ _ _ _ _ found begins left (in_times c.args.sign dates []) ∙ rw is at (c.in-Ok.ensures.times c.args.sign dates)
+    let off = one_taken {letter = g.T.EncodingType.letter} c.in_ok-byte.ensures.letter c.in-Some.is c.in_ok-byte.ensures.rest c.advance.ensures.rest in
+    to_digit _ _ _ _ _ off.found (search rules) off.left (in_times c.args.sign dates []) ∙ rw is at (c.in-Ok.ensures.times c.args.sign dates)
 
 -- Reading the time groups failed.
 pub returns-in-Err-clause-duration : goal.returns-in-Err-clause-duration
 returns-in-Err-clause-duration g c dates is =
-    let found : seen reasons.AfterTimeDesignator (map g.T.EncodingType.letter c.args.cursor.now.rest) ≡ Ok (Some c.in-Some.byte) =
-    cc (c.in_ok-byte.ensures.letter, c.in-Some.is) in
-    let begins : digit c.in-Some.byte ≡ true = search rules in
-    let left : map g.T.EncodingType.letter c.advance.new.self.rest ≡ drop 1 (map g.T.EncodingType.letter c.args.cursor.now.rest) =
-    c.advance.ensures.letters ∙ ap (λ (t : List ℕ). drop 1 (map g.T.EncodingType.letter t)) c.in_ok-byte.ensures.rest in
-    to_digit _ _ _ _ _ found begins left (in_times c.args.sign dates []) ∙ c.in-Err.ensures.times c.args.sign dates
+    let off = one_taken {letter = g.T.EncodingType.letter} c.in_ok-byte.ensures.letter c.in-Some.is c.in_ok-byte.ensures.rest c.advance.ensures.rest in
+    to_digit _ _ _ _ _ off.found (search rules) off.left (in_times c.args.sign dates []) ∙ c.in-Err.ensures.times c.args.sign dates
 
 -- No group begins.
 pub returns-in_default-clause-duration : goal.returns-in_default-clause-duration

@@ -1,16 +1,10 @@
 use Rattle.ixdtf_grammar.proofs.pointed.write_characters.Goals as goal
-use Rattle.std.proofs.Common.{◌≡◌, refl, true, ℕ, List, [], ◌∷◌, ◌++◌, map, take, drop, sym, ap, ◌∙◌, append-nil}
+use Rattle.std.proofs.Common.{◌≡◌, refl, true, map, take, drop, sym, ap, ◌∙◌}
 use Rattle.std.proofs.{Output.{has_written_styled_append, has_written_styled_of_eq}, lemmas.Iterator.{YieldsList-from_chars, YieldsList-from_take}}
-use Rattle.std.proofs.lemmas.{Iterator.{Adapters.YieldsList-from_skip, Consumers.YieldsList-end}, List.{map-append, map-id}, Str.encodes-append}
-use Rattle.std.specs.{Char.encode_utf8, Str.{chars, encode_utf8_all}}
+use Rattle.std.proofs.lemmas.{Iterator.{Adapters.YieldsList-from_skip, Consumers.YieldsList-end}, List.map-id}
+use Rattle.std.specs.Str.{chars, encode_utf8_all}
 use Rattle.ixdtf_grammar.specs.LocatedTexts.{shown}
-
--- One more character is written after the others.
-one_more : (cs : List ℕ) (c : ℕ) → encode_utf8_all (map shown cs) ++ encode_utf8 (shown c) ≡ encode_utf8_all (map shown (cs ++ c ∷ []))
-one_more cs c =
-    ap (λ l. encode_utf8_all (map shown cs) ++ l) (sym (append-nil (encode_utf8 (shown c))))
-    ∙ sym (encodes-append (map shown cs) (shown c ∷ []))
-    ∙ ap encode_utf8_all (sym (map-append shown cs (c ∷ [])))
+use Rattle.ixdtf_grammar.proofs.code.Pointed.{one_more}
 
 pub loop-character-preserved : goal.loop-character-preserved
 loop-character-preserved g c = λ flush.

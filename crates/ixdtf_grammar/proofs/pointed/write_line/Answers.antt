@@ -1,9 +1,9 @@
 use Rattle.ixdtf_grammar.proofs.pointed.write_line.Goals as goal
-use Rattle.std.proofs.Common.{◌≡◌, refl, ℕ, ◌+◌, ◌-◌, List, ◌++◌, Bool, true, false, length, map, take, drop, nat_lt, sym, ap, ◌∙◌, arith}
+use Rattle.std.proofs.Common.{refl, length, ap, arith}
 use Rattle.std.proofs.{Output.{has_written_styled_append, has_written_styled_of_eq}, lemmas.Iterator.YieldsList-from_chars}
-use Rattle.std.proofs.lemmas.{Iterator.Consumers.count_from_yields_List, Str.{encodes-append, encodes-chars, length-le-encodes}}
-use Rattle.std.specs.Str.{chars, encode_utf8_all}
-use Rattle.ixdtf_grammar.specs.LocatedTexts.{shown, cut_mark, line_of}
+use Rattle.std.proofs.lemmas.{Iterator.Consumers.count_from_yields_List, Str.{encodes-chars, length-le-encodes}}
+use Rattle.std.specs.Str.{chars}
+use Rattle.ixdtf_grammar.proofs.code.Pointed.{line_bytes}
 
 -- A text has at most as many characters as bytes, and it has fewer than 2 ^ 63 bytes.
 pub overflow_add-end : goal.overflow_add-end
@@ -13,25 +13,6 @@ overflow_add-end g c =
     let bytes = ap length (encodes-chars c.args.text.now c.utf8.text) in
     let within = c.requires in
     omega arith
-
-mark_bytes : (b : Bool) → cut_mark b ≡ encode_utf8_all (cut_mark b)
-unfolding lib.Utf8.encode
-mark_bytes true = refl
-mark_bytes false = refl
-
-line_bytes : (cs : List ℕ) (column first count : ℕ) (front back : List ℕ) → front ≡ cut_mark (nat_lt 48 column) → first ≡ column - 48 → count ≡ length cs → back ≡ cut_mark (nat_lt (column + 24) count)
-    → front ++ (encode_utf8_all (map shown (drop first (take (column + 24) cs))) ++ back) ≡ encode_utf8_all (line_of cs column)
-line_bytes cs column first count front back f d n b =
-    let middle = map shown (drop (column - 48) (take (column + 24) cs)) in
-    let behind = cut_mark (nat_lt (column + 24) (length cs)) in
-    let before = cut_mark (nat_lt 48 column) in
-    let is_front : front ≡ encode_utf8_all before = f ∙ mark_bytes _ in
-    let is_back : back ≡ encode_utf8_all behind = b ∙ ap (λ k. cut_mark (nat_lt (column + 24) k)) n ∙ mark_bytes _ in
-    ap (λ l. l ++ (encode_utf8_all (map shown (drop first (take (column + 24) cs))) ++ back)) is_front
-    ∙ ap (λ k. encode_utf8_all before ++ (encode_utf8_all (map shown (drop k (take (column + 24) cs))) ++ back)) d
-    ∙ ap (λ l. encode_utf8_all before ++ (encode_utf8_all middle ++ l)) is_back
-    ∙ ap (λ l. encode_utf8_all before ++ l) (sym (encodes-append middle behind))
-    ∙ sym (encodes-append before (middle ++ behind))
 
 pub returns : goal.returns
 returns g c = λ flush ok.
