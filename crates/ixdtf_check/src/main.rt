@@ -153,11 +153,19 @@ fn main(rt: HostRuntime) -> ExitCode {
     if !outcome.is_quiet && options.has_counts() {
         let more = outcome.unreported();
         if more > 0 {
-            let _ = eprintln!(rt; "{more} more refused lines");
+            let of_more = plural_ending(more);
+            let _ = eprintln!(rt; "{more} more refused line{of_more}");
         }
-        let _ = eprintln!(rt; "{lines} lines, {refused} refused, {bytes} bytes");
+        let of_lines = plural_ending(lines);
+        let of_bytes = plural_ending(bytes);
+        let _ = eprintln!(rt; "{lines} line{of_lines}, {refused} refused, {bytes} byte{of_bytes}");
     }
     ExitCode::from(status_of(outcome.has_failed, refused))
+}
+
+/// Returns the ending of the word for what is counted: `1 line`, but `2 lines`.
+fn plural_ending(count: u64) -> &'static str {
+    if count == 1 { "" } else { "s" }
 }
 
 /// Returns whether a terminal shows colours, and the user does not forbid them: `NO_COLOR` is not set or is empty, and `TERM` is not

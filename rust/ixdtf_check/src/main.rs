@@ -173,11 +173,17 @@ fn main() -> ExitCode {
     if !outcome.is_quiet && options.has_counts() {
         let more = outcome.unreported();
         if more > 0 {
-            say(format_args!("{more} more refused lines"));
+            say(format_args!("{more} more refused line{}", plural_ending(more)));
         }
-        say(format_args!("{lines} lines, {refused} refused, {bytes} bytes"));
+        let (of_lines, of_bytes) = (plural_ending(lines), plural_ending(bytes));
+        say(format_args!("{lines} line{of_lines}, {refused} refused, {bytes} byte{of_bytes}"));
     }
     ExitCode::from(status_of(outcome.has_failed, refused))
+}
+
+/// Returns the ending of the word for what is counted: `1 line`, but `2 lines`.
+fn plural_ending(count: u64) -> &'static str {
+    if count == 1 { "" } else { "s" }
 }
 
 /// Returns whether a terminal shows colours, and the user does not forbid them: `NO_COLOR` is not set or is empty, and `TERM` is not `dumb`.

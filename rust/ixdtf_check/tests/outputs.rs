@@ -97,6 +97,13 @@ fn the_name_of_a_field_is_in_the_message() {
 }
 
 #[test]
+fn one_is_counted_as_one() {
+    assert_eq!(outputs(&["--quiet"], b"\n").1, "1 line, 1 refused, 1 byte\n");
+    let two = outputs(&["--max-reports", "1", "--kind", "time"], b"25\n26\n").1;
+    assert_eq!(two, "1 more refused line\n2 lines, 2 refused, 6 bytes\n");
+}
+
+#[test]
 fn a_name_may_have_an_equals_sign() {
     let done = run(&["--header", "--field=a=b"], b"a\tb\n");
     assert!(done.stderr.starts_with(b"ixdtf_check: -: --field a=b: "));
