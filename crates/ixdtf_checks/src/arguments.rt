@@ -53,7 +53,7 @@ pub enum Wrong {
     InvalidField,
     /// The value of `--field` is a name, but there is no `--header`.
     NameWithoutHeader,
-    /// The value of `--separator` is not one byte.
+    /// The value of `--separator` is neither one byte nor `\t`.
     InvalidSeparator,
     /// The value of `--comment` is not one byte.
     InvalidComment,
@@ -97,8 +97,7 @@ impl Wrong {
             Wrong::NameWithoutHeader => {
                 "expected the number of a field, which is 1 or more; --field NAME needs --header"
             }
-            Wrong::InvalidSeparator =>
-                "expected a separator of one byte; in bash, write a tab as $'\\t'",
+            Wrong::InvalidSeparator => "expected a separator of one byte, or \\t for a tab",
             Wrong::InvalidComment => "expected the one byte with which comments begin",
             Wrong::InvalidCount => "expected a number of reports",
             Wrong::UnknownFormat => "there is no such format; the formats are text and json",
@@ -395,12 +394,16 @@ impl Options {
         }
     }
 
-    /// Applies the value of `--separator`, one byte.
+    /// Applies the value of `--separator`: one byte, or `\t` for a tab.
     fn take_separator(&mut self, word: &str) -> Word {
         self.awaited = Awaited::Anything;
         match word.as_bytes() {
             [byte] => {
                 self.separator = Some(*byte);
+                Word::Option
+            }
+            [b'\\', b't'] => {
+                self.separator = Some(b'\t');
                 Word::Option
             }
             _ => Word::Wrong(Wrong::InvalidSeparator),

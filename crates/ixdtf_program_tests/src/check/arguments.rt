@@ -60,6 +60,27 @@ fn takes_options(rt: HostRuntime) {
     assert!(rt; request.is_quiet);
 }
 
+/// Values of `--separator`, with the bytes that they stand for.
+const SEPARATORS: &[(&str, u8)] = &[(";", b';'), ("\t", b'\t'), ("\\t", b'\t'), ("\\", b'\\')];
+
+#[test]
+fn takes_separators(rt: HostRuntime) {
+    for (value, separator) in SEPARATORS {
+        let words = ["--field", "1", "--separator", value];
+        let Some(request) = options_of(&rt, &words).request("f") else {
+            panic!(rt; "no request");
+        };
+        assert_eq!(rt;
+            request.field,
+            Some(Field {
+                before: 0,
+                separator: *separator,
+                extent: Extent::One
+            })
+        );
+    }
+}
+
 /// Values of `--fields`, with the fields that they ask for.
 const JOINED: &[(&str, usize, usize)] = &[("1-2", 0, 1), ("3-3", 2, 0), ("2-9", 1, 7)];
 
@@ -240,6 +261,7 @@ const WITHOUT_VALUES: &[(&str, &str, Wrong)] = &[
     ("--fields", "1-", Wrong::InvalidFields),
     ("--kind", "date", Wrong::UnknownKind),
     ("--separator", ",,", Wrong::InvalidSeparator),
+    ("--separator", "\\n", Wrong::InvalidSeparator),
     ("--comment", "//", Wrong::InvalidComment),
     ("--max-reports", "-1", Wrong::InvalidCount),
     ("--format", "xml", Wrong::UnknownFormat),
