@@ -252,7 +252,8 @@ fn take_fixed_rfc3339<'a, T: EncodingType>(
     ensures rest { result ≡ None → cursor.new.rest ≡ cursor.old.rest }
     ensures looks { Spends 20 cursor.old cursor.new }
 {
-    if cursor.remaining() < 19 || !is_time_designator(cursor.byte_at(10)) {
+    // The only other separator that `take_fixed_date_time` accepts is a space.
+    if cursor.remaining() < 19 || cursor.byte_at(10) == b' ' {
         return None;
     }
     take_fixed_date_time(cursor)

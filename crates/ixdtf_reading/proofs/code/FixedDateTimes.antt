@@ -14,7 +14,7 @@ full_date text date d = (
 )
 
 -- The separator is the eleventh code unit.
-separator_is : (text : Text) (date : DateRecord) (time : TimeRecord) (rest : Text) (f : FixedDateTime text date time rest) → byte_place 10 text ≡ f.separator
+pub separator_is : (text : Text) (date : DateRecord) (time : TimeRecord) (rest : Text) (f : FixedDateTime text date time rest) → byte_place 10 text ≡ f.separator
 separator_is text date time rest f =
     let d = f.is_date in
     let y = d.year.0 in

@@ -186,7 +186,8 @@ fn parse_after_seconds<'a, T: EncodingType>(
 fn take_fixed_rfc3339<'a, T: EncodingType>(
     cursor: &mut Cursor<'a, T>,
 ) -> Option<(DateRecord, WholeTime)> {
-    if cursor.remaining() < 19 || !is_time_designator(cursor.byte_at(10)) {
+    // The only other separator that `take_fixed_date_time` accepts is a space.
+    if cursor.remaining() < 19 || cursor.byte_at(10) == b' ' {
         return None;
     }
     take_fixed_date_time(cursor)
