@@ -46,6 +46,9 @@ pub mod parsers;
 pub use ixdtf_grammar::hexadecimal::{byte_digits, character_digits};
 // This item is `pub` because other crates of this repository use it. It is not part of the interface for callers.
 #[doc(hidden)]
+pub use ixdtf_grammar::located::LocatedReason;
+// This item is `pub` because other crates of this repository use it. It is not part of the interface for callers.
+#[doc(hidden)]
 pub use ixdtf_grammar::message::look_alike;
 // These items are `pub` because other crates of this repository use them. They are not part of the interface for callers.
 #[doc(hidden)]

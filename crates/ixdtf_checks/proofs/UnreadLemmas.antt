@@ -4,7 +4,7 @@ use Rattle.std.proofs.lemmas.List.{length-take, length-take-le, take-append-le, 
 use Rattle.std.specs.Prelude.{◌&&◌, min}
 use Rattle.ixdtf_buffers.specs.Adding.{Adds}
 use Rattle.ixdtf_grammar.specs.{Messages.{IsMessage, message_text}, Parts.{IsPart, extent_of}, ReasonNames.reason_name}
-use Rattle.ixdtf_grammar.specs.declared.{located.LocatedError.LocatedError, message.Message.Message, part.WrongPart.WrongPart}
+use Rattle.ixdtf_grammar.specs.declared.{located.LocatedReason.LocatedReason, message.Message.Message, part.WrongPart.WrongPart}
 use Rattle.ixdtf_checks.specs.{Parts.{Text, width_of}, Seen.lines_at, Spaced.is_spaced, Verdicts.{Explains}}
 use Rattle.ixdtf_checks.proofs.VerdictLemmas.{shows_part}
 
@@ -29,7 +29,7 @@ pub take_shorter : (a b : List ℕ) (i j : ℕ) → i ≤ j → take j a ≡ tak
 take_shorter a b i j less same = sym (take-take i j a less) ∙ ap (take i) same ∙ take-take i j b less
 
 -- If the part that is wrong begins with no space before an offset, a report says this about the text.
-pub explained : (has_offset : Bool) (text : Text) (error : LocatedError) (part : WrongPart) (message : Message) (column end : ℕ) → error.at ≤ length text.bytes
+pub explained : (has_offset : Bool) (text : Text) (error : LocatedReason) (part : WrongPart) (message : Message) (column end : ℕ) → error.at ≤ length text.bytes
     → IsPart (extent_of error.reason) text.bytes (min error.at (length text.bytes)) part → (has_offset && is_spaced (drop part.begin text.bytes)) ≡ false
     → IsMessage error.reason text.bytes (min error.at (length text.bytes)) message
     → column ≡ text.start + width_of text part.begin + 1 → end ≡ text.start + width_of text part.end + 1

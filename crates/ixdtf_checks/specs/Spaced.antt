@@ -1,7 +1,7 @@
 -- Defines the message about a text that a reader refuses. There is a message about a space before an offset, because some programs write one.
 use Rattle.ixdtf_grammar.specs.Hints.{IsHint}
 use Rattle.std.specs.{Prelude.{◌≡◌, ℕ, Bool, false, ◌==◌, ◌&&◌, ◌||◌, nat_le, List, [], ◌∷◌, drop, codes, Option, Some, option_map}, Bool.MatchBool}
-use Rattle.ixdtf_grammar.specs.{declared.{located.LocatedError.LocatedError, message.Message.Message, part.WrongPart.WrongPart}, Messages.{IsMessage, message_text}, ReasonNames.reason_name}
+use Rattle.ixdtf_grammar.specs.{declared.{located.LocatedReason.LocatedReason, message.Message.Message, part.WrongPart.WrongPart}, Messages.{IsMessage, message_text}, ReasonNames.reason_name}
 
 abbrev pub is_sign : ℕ → Bool
 is_sign byte = (byte == 43) || (byte == 45)
@@ -22,13 +22,13 @@ is_spaced (byte ∷ bytes) = (byte == 32) && begins_offset bytes
 
 -- These are the name of the reason and the words of the message about a text with this error, in which this part is wrong. `has_offset`
 -- says whether an offset may follow a time in the text.
-abbrev pub SaysWhy : Bool → List ℕ → LocatedError → WrongPart → List ℕ → List ℕ → Type 0
+abbrev pub SaysWhy : Bool → List ℕ → LocatedReason → WrongPart → List ℕ → List ℕ → Type 0
 SaysWhy has_offset bytes error part reason words = MatchBool (has_offset && is_spaced (drop part.begin bytes))
     ((reason ≡ codes "space_before_offset") × (words ≡ codes "a space stands before the offset"))
     ((reason ≡ reason_name error.reason) × ((message : Message) × IsMessage error.reason bytes error.at message × (words ≡ message_text message)))
 
 -- This is the hint about a text with this error, in which this part is wrong.
-abbrev pub HasHint : Bool → List ℕ → LocatedError → WrongPart → Option (List ℕ) → Type 0
+abbrev pub HasHint : Bool → List ℕ → LocatedReason → WrongPart → Option (List ℕ) → Type 0
 HasHint has_offset bytes error part hint = MatchBool (has_offset && is_spaced (drop part.begin bytes))
     (hint ≡ Some (codes "remove the space before the offset"))
     ((given : Option Message) × IsHint error.reason bytes error.at given × (hint ≡ option_map message_text given))

@@ -1,6 +1,6 @@
 -- Defines the verdict on a line.
 use Rattle.std.specs.{Prelude.{◌≡◌, ◌⊎◌, ℕ, Bool, true, ◌+◌, List, [], ◌∷◌, ◌++◌, length, nat_lt, codes, IsUtf8, Option, Some, None}, Bool.MatchBool}
-use Rattle.ixdtf_grammar.specs.{declared.{profile.Profile.Profile, located.LocatedError.LocatedError, part.WrongPart.WrongPart}, LocatedTexts.pointed_text, Parts.{IsPart, extent_of}}
+use Rattle.ixdtf_grammar.specs.{declared.{profile.Profile.Profile, located.{LocatedError.LocatedError, LocatedReason.LocatedReason}, part.WrongPart.WrongPart}, LocatedTexts.pointed_text, Parts.{IsPart, extent_of}}
 use Rattle.ixdtf_grammar.specs.{Widths.{HasUnhandledOutcome, byte_text, UnhandledOutcome.read_as}, language.{Languages.{Found}}}
 use Rattle.ixdtf_grammar.specs.{language.Readers.{Reader}}
 use Rattle.ixdtf_buffers.specs.Lines.{newline}
@@ -25,11 +25,12 @@ hint_line (Some hint) = codes "hint: " ++ (hint ++ newline ∷ [])
 -- Why a line is refused.
 -- `whole`: the line has no text. It is refused at this column, for the reason with this name, with this message.
 -- `marked`: the text with these bytes is refused as a whole, for the reason with this name, with this message. It begins at this column.
--- `unread`: a reader refuses the text with this error. The first value says whether an offset may follow a time in the text.
+-- `unread`: a reader refuses the text for this reason, at this position. The first value says whether an offset may follow a time in the
+-- text.
 pub data Cause : Type 0 where
   whole : ℕ → List ℕ → List ℕ → Cause
   marked : ℕ → List ℕ → List ℕ → List ℕ → Cause
-  unread : Bool → Text → LocatedError → Cause
+  unread : Bool → Text → LocatedReason → Cause
 
 -- `accepted`: the line is accepted, and has this instant if its text was read for its instant.
 -- `printed`: the text is accepted, and this is its canonical text.
@@ -58,8 +59,8 @@ abbrev pub ShowsPart : List ℕ → WrongPart → List ℕ → Type 0
 ShowsPart bytes part lines =
     (IsUtf8 bytes × (lines ≡ pointed_text bytes part.begin part.end ++ newline ∷ [])) ⊎ (¬ (IsUtf8 bytes) × (lines ≡ []))
 
--- The report says why a reader refuses the text with this error.
-pub record Explains (has_offset : Bool) (text : Text) (error : LocatedError) (refusal : Refusal) : Type 0 where
+-- The report says why a reader refuses the text, for this reason and at this position.
+pub record Explains (has_offset : Bool) (text : Text) (error : LocatedReason) (refusal : Refusal) : Type 0 where
   pub part : WrongPart
   pub is_part : IsPart (extent_of error.reason) text.bytes error.at part
   pub column : refusal.column ≡ text.start + width_of text part.begin + 1
@@ -83,9 +84,14 @@ IsHintAbout (marked column bytes reason message) hint = hint ≡ None
 IsHintAbout (unread has_offset text error) hint =
     (part : WrongPart) × IsPart (extent_of error.reason) text.bytes error.at part × HasHint has_offset text.bytes error part hint
 
+-- This is the reason of an error, with the position of the error.
+abbrev pub reason_at : LocatedError → LocatedReason
+reason_at error = record { at = error.at; reason = error.reason }
+
 -- The reader refuses the text, and this is the cause.
 abbrev pub IsUnread : Bool → Reader → Text → Cause → Type 0
-IsUnread has_offset reader text cause = (error : LocatedError) × HasError reader (byte_text text.bytes) error × (cause ≡ unread has_offset text error)
+IsUnread has_offset reader text cause =
+    (error : LocatedError) × HasError reader (byte_text text.bytes) error × (cause ≡ unread has_offset text (reason_at error))
 
 -- This is the cause if the complete text is refused. The column is that of the first byte of the text in the line.
 abbrev pub marked_text : Text → List ℕ → List ℕ → Cause

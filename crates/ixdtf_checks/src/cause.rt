@@ -6,7 +6,7 @@ ghost use Rattle.std.specs.Prelude.{◌≡◌, ◌+◌, ◌≤◌, length};
 
 use crate::csv::Quoting;
 use crate::part::Part;
-use ixdtf::{Instant, LocatedError};
+use ixdtf::{Instant, LocatedReason};
 
 /// Why a line is refused.
 #[derive(Clone, Copy)]
@@ -40,8 +40,8 @@ pub struct WholeText<'a> {
 pub struct Unread<'a> {
     /// Whether the kind of text that the reader parses can have an offset after the time.
     pub has_offset: bool,
-    /// The error that the reader returned.
-    pub error: LocatedError,
+    /// The reason of the error that the reader returned, and the position of this error.
+    pub error: LocatedReason,
     /// The part of the line that is the text.
     pub part: Part<'a>,
     ghost short: { part.start + length part.text.now ≤ 65536 },

@@ -9,6 +9,8 @@ ghost use Rattle.ixdtf_checks.specs.Kinds.{instant_reader_of};
 ghost use Rattle.ixdtf_checks.specs.Order.{IsTimed, latest};
 ghost use Rattle.ixdtf_checks.specs.Parts.{line_in, seen_part};
 ghost use Rattle.ixdtf_checks.specs.Seen.{seen};
+ghost use Rattle.ixdtf_checks.specs.Verdicts.Cause.{unread};
+ghost use Rattle.ixdtf_checks.specs.Verdicts.Verdict.{refused};
 ghost use Rattle.ixdtf_checks.specs.Verdicts.{IsVerdict, IsShortVerdict, IsLineVerdict, IsOrderVerdict, IsTextVerdict};
 ghost use Rattle.ixdtf_checks.specs.Reports.{instant_in};
 ghost use Rattle.ixdtf_checks.specs.Refusals.{IsRefusal};
@@ -24,7 +26,7 @@ use crate::request::{Field, Request, Task};
 use crate::skipped::kept_line;
 use crate::verdict::{LINE_LIMIT, Verdict};
 use ixdtf::parsers::Profile;
-use ixdtf::{Instant, LocatedError};
+use ixdtf::{Instant, LocatedError, LocatedReason};
 
 /// Writes the verdict on the line to `verdict`. The line is `None` if it is too long. `last` is the instant of the nearest
 /// preceding line whose text names an instant. If the task is `Task::Order` and the text of this line names an instant, `last`
@@ -148,10 +150,7 @@ fn judge_text<'a>(
 {
     match request.task {
         Task::Check(kind) => judge_check(kind, request.profile, part, verdict),
-        Task::Print(kind) => match read_to_print(kind, request.profile, part.text, printed) {
-            Ok(()) => *verdict = Verdict::Printed,
-            Err(error) => refuse(verdict, kind.has_offset(), error, part),
-        },
+        Task::Print(kind) => judge_print(kind, request.profile, part, printed, verdict),
         Task::Order(kind) => judge_order(kind, last, part, verdict),
     }
 }
@@ -197,6 +196,28 @@ fn judge_other_check<'a>(kind: Kind, profile: Profile, part: Part<'a>, verdict: 
 {
     match read(kind, profile, part.text) {
         Ok(()) => {}
+        Err(error) => refuse(verdict, kind.has_offset(), error, part),
+    }
+}
+
+/// Writes the verdict on a text whose canonical text is printed, if a reader accepts it.
+///
+/// The function is not inlined: otherwise its local variables would be set to zero also for each line that is only checked.
+#[inline(never)]
+fn judge_print<'a>(
+    kind: Kind,
+    profile: Profile,
+    part: Part<'a>,
+    printed: &mut PrintedText,
+    verdict: &mut Verdict<'a>,
+)
+    requires { part.start + length part.text.now ≤ 65536 }
+    ensures verdict { (last : Option Instant)
+        → IsTextVerdict (Task.Print kind) profile last (seen_part part.entry) (seen printed.new verdict.new) }
+    ensures instant { (printed : List ℕ) → instant_in (seen printed verdict.new) ≡ None }
+{
+    match read_to_print(kind, profile, part.text, printed) {
+        Ok(()) => *verdict = Verdict::Printed,
         Err(error) => refuse(verdict, kind.has_offset(), error, part),
     }
 }
@@ -263,9 +284,7 @@ fn whole_text(part: Part<'_>) -> WholeText<'_>
 
 /// Writes the verdict on a line whose text a reader refuses. `has_offset` says whether texts of this kind can have an offset after
 /// their time.
-///
-/// The function is not inlined: otherwise its local variables would be set to zero for each line, also if the line is accepted.
-#[inline(never)]
+#[inline(always)]
 fn refuse<'a>(verdict: &mut Verdict<'a>, has_offset: bool, error: LocatedError, part: Part<'a>)
     requires line { part.start + length part.text.now ≤ 65536 }
     requires within { error.at ≤ length part.text.now }
@@ -273,6 +292,24 @@ fn refuse<'a>(verdict: &mut Verdict<'a>, has_offset: bool, error: LocatedError, 
         → HasError reader (byte_text part.entry.text.now) error
         → (printed : List ℕ) → IsRefusal has_offset reader (seen_part part.entry) (seen printed verdict.new) }
     ensures instant { (printed : List ℕ) → instant_in (seen printed verdict.new) ≡ None }
+{
+    write_unread(verdict, has_offset, error.located_reason(), part)
+}
+
+/// Does the work of `refuse`. `error` is the reason of the error with its position. No report needs more of the error.
+///
+/// The function is not inlined: otherwise its local variables would be set to zero for each line, also if the line is accepted. Its
+/// caller is inlined, so that the compiler can leave out the other parts of the error.
+#[inline(never)]
+fn write_unread<'a>(
+    verdict: &mut Verdict<'a>,
+    has_offset: bool,
+    error: LocatedReason,
+    part: Part<'a>,
+)
+    requires line { part.start + length part.text.now ≤ 65536 }
+    requires within { error.at ≤ length part.text.now }
+    ensures { (printed : List ℕ) → seen printed verdict.new ≡ refused None (unread has_offset (seen_part part.entry) error) }
 {
     *verdict = Verdict::Refused(Cause::Unread(Unread {
         has_offset,

@@ -32,7 +32,7 @@ mod error;
 pub mod hexadecimal;
 mod hint;
 mod instants;
-mod located;
+pub mod located;
 pub mod message;
 pub mod packed;
 pub mod part;

@@ -36,7 +36,31 @@ pub struct LocatedError {
     pub reason: Reason,
 }
 
+/// The reason of an error, and the position of the error. All that a report says about a refused text follows from these two.
+///
+/// This type has fewer bytes than a [`LocatedError`]. A program that only reports an error keeps this type.
+#[derive(Clone, Copy)]
+pub struct LocatedReason {
+    /// The position, as in [`LocatedError::at`].
+    pub at: usize,
+    /// The reason, as in [`LocatedError::reason`].
+    pub reason: Reason,
+}
+
 impl LocatedError {
+    /// Returns the reason and the position.
+    #[doc(hidden)]
+    #[inline(always)]
+    pub fn located_reason(self) -> LocatedReason
+        ensures at { result.at ≡ self.at }
+        ensures reason { result.reason ≡ self.reason }
+    {
+        LocatedReason {
+            at: self.at,
+            reason: self.reason,
+        }
+    }
+
     /// Returns the text with a mark under each byte of the part that is wrong, so that people can see this part.
     ///
     /// `text` must be the complete source of the parser that returned this error. This parser must not have returned

@@ -6,7 +6,7 @@ ghost use Rattle.std.specs.Fmt.{WritesOnOk};
 ghost use Rattle.ixdtf_grammar.specs.Messages.{IsMessage, ShowsCharacter, ShowsText};
 ghost use Rattle.ixdtf_grammar.specs.Messages.{first_character, shown_text, character_text, look_alike, hex_text};
 
-use crate::located::{LocatedError, valid_front};
+use crate::located::{LocatedError, LocatedReason, valid_front};
 use crate::wording::{Context, Wording, wording_of};
 use std::fmt;
 use std::str::from_utf8;
@@ -92,6 +92,15 @@ impl LocatedError {
     /// ```
     pub fn message_in<'a>(&self, text: &'a [u8]) -> Message<'a>
         ensures message { IsMessage self.now.reason text.now (min self.now.at (length text.now)) result }
+    {
+        self.located_reason().message_in(text)
+    }
+}
+
+impl LocatedReason {
+    /// Returns the message about an error with this reason and this position, as [`LocatedError::message_in`] does.
+    pub fn message_in(self, text: &[u8]) -> Message<'_>
+        ensures message { IsMessage self.reason text.now (min self.at (length text.now)) result }
     {
         let at = self.at.min(text.len());
         let (front, rest) = text.split_at(at);

@@ -5,7 +5,7 @@ ghost use Rattle.ixdtf_grammar.specs.Parts.{RunsBack, RunsOn, IsLastOpening, IsP
 ghost use Rattle.ixdtf_grammar.specs.language.Letters.{digit, opening};
 
 use crate::encoding::{EncodingType, Utf8, Utf16};
-use crate::located::LocatedError;
+use crate::located::{LocatedError, LocatedReason};
 use crate::reason::Reason;
 
 /// The part of a text that is wrong: the bytes from the index `begin` up to, but not including, the index `end`.
@@ -67,6 +67,16 @@ impl LocatedError {
     /// ```
     pub fn part_in(&self, text: &[u8]) -> WrongPart
         ensures part { IsPart (extent_of self.now.reason) text.now (min self.now.at (length text.now)) result }
+        ensures within { (result.begin ≤ result.end) × (result.end ≤ length text.now) }
+    {
+        self.located_reason().part_in(text)
+    }
+}
+
+impl LocatedReason {
+    /// Returns the part of the text that is wrong, as [`LocatedError::part_in`] does.
+    pub fn part_in(self, text: &[u8]) -> WrongPart
+        ensures part { IsPart (extent_of self.reason) text.now (min self.at (length text.now)) result }
         ensures within { (result.begin ≤ result.end) × (result.end ≤ length text.now) }
     {
         part_of::<Utf8>(self.reason, self.at, text)

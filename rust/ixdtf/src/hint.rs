@@ -28,7 +28,7 @@ use crate::hint::times::{
     after_minute, after_minute_field, after_second, at_hour, date_before_time, hour_range,
     in_clock, in_hour,
 };
-use crate::located::LocatedError;
+use crate::located::{LocatedError, LocatedReason};
 use crate::message::{Message, Shown, shown_first, shown_part};
 use crate::reason::Reason;
 
@@ -74,6 +74,13 @@ impl LocatedError {
     /// assert!(error.hint_in(text.as_bytes()).is_none());
     /// ```
     pub fn hint_in<'a>(&self, text: &'a [u8]) -> Option<Message<'a>> {
+        self.located_reason().hint_in(text)
+    }
+}
+
+impl LocatedReason {
+    /// Returns the hint about an error with this reason and this position, as [`LocatedError::hint_in`] does.
+    pub fn hint_in(self, text: &[u8]) -> Option<Message<'_>> {
         let at = self.at.min(text.len());
         let (front, rest) = text.split_at(at);
         match hint_of(self.reason, text, front, rest) {

@@ -37,6 +37,9 @@ mod wording;
 pub use crate::hexadecimal::{byte_digits, character_digits};
 // This item is `pub` because other crates of this repository use it. It is not part of the interface for callers.
 #[doc(hidden)]
+pub use crate::located::LocatedReason;
+// This item is `pub` because other crates of this repository use it. It is not part of the interface for callers.
+#[doc(hidden)]
 pub use crate::message::look_alike;
 // These items are `pub` because other crates of this repository use them. They are not part of the interface for callers.
 #[doc(hidden)]

@@ -2,7 +2,7 @@
 
 //! Messages that say what is wrong in a text that a reader refused.
 
-use crate::located::{LocatedError, valid_front};
+use crate::located::{LocatedError, LocatedReason, valid_front};
 use crate::wording::{Context, Wording, wording_of};
 use core::fmt;
 use core::str::from_utf8;
@@ -87,6 +87,13 @@ impl LocatedError {
     /// assert_eq!(message.to_string(), "the month is 13, and has to be 01 to 12");
     /// ```
     pub fn message_in<'a>(&self, text: &'a [u8]) -> Message<'a> {
+        self.located_reason().message_in(text)
+    }
+}
+
+impl LocatedReason {
+    /// Returns the message about an error with this reason and this position, as [`LocatedError::message_in`] does.
+    pub fn message_in(self, text: &[u8]) -> Message<'_> {
         let at = self.at.min(text.len());
         let (front, rest) = text.split_at(at);
         match wording_of(self.reason, Context::of(front, rest)) {

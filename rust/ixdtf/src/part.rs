@@ -3,7 +3,7 @@
 //! The part of a text that is wrong.
 
 use crate::encoding::{EncodingType, Utf8, Utf16};
-use crate::located::LocatedError;
+use crate::located::{LocatedError, LocatedReason};
 use crate::reason::Reason;
 
 /// The part of a text that is wrong: the bytes from the index `begin` up to, but not including, the index `end`.
@@ -64,6 +64,13 @@ impl LocatedError {
     /// assert_eq!(error.part_in(text.as_bytes()), WrongPart { begin: 5, end: 7 });
     /// ```
     pub fn part_in(&self, text: &[u8]) -> WrongPart {
+        self.located_reason().part_in(text)
+    }
+}
+
+impl LocatedReason {
+    /// Returns the part of the text that is wrong, as [`LocatedError::part_in`] does.
+    pub fn part_in(self, text: &[u8]) -> WrongPart {
         part_of::<Utf8>(self.reason, self.at, text)
     }
 }

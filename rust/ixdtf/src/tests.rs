@@ -351,22 +351,49 @@ impl<'a, T: EncodingType> Parsers<'a, T> {
 
     // Returns the error of the reader, or `None` if it accepts the text.
     fn refusal(&mut self, reader: Reader) -> Option<ParseError> {
-        self.read(reader).err()
+        match self.read(reader) {
+            Ok(_found) => None,
+            Err(error) => Some(error),
+        }
     }
 
     // Returns the error of the `*_located` variant with its position, or `None` if it accepts the text.
     fn located_refusal(&mut self, reader: Reader) -> Option<LocatedError> {
-        match reader {
-            Reader::Parse => self.dates.parse_located().err(),
-            Reader::YearMonth => self.dates.parse_year_month_located().err(),
-            Reader::MonthDay => self.dates.parse_month_day_located().err(),
-            Reader::Time => self.dates.parse_time_located().err(),
-            Reader::Rfc3339 => self.dates.parse_rfc3339_located().err(),
-            Reader::Rfc9557 => self.dates.parse_rfc9557_located().err(),
-            Reader::Offset => self.zones.parse_offset_located().err(),
-            Reader::Identifier => self.zones.parse_identifier_located().err(),
-            Reader::IanaIdentifier => self.zones.parse_iana_identifier_located().err(),
-            Reader::Duration => self.durations.parse_located().err(),
+        let parts = match reader {
+            Reader::Parse => self.dates.parse_located(),
+            Reader::YearMonth => self.dates.parse_year_month_located(),
+            Reader::MonthDay => self.dates.parse_month_day_located(),
+            Reader::Time => self.dates.parse_time_located(),
+            Reader::Rfc3339 => self.dates.parse_rfc3339_located(),
+            Reader::Rfc9557 => self.dates.parse_rfc9557_located(),
+            Reader::Offset => {
+                return match self.zones.parse_offset_located() {
+                    Ok(_found) => None,
+                    Err(error) => Some(error),
+                };
+            }
+            Reader::Identifier => {
+                return match self.zones.parse_identifier_located() {
+                    Ok(_found) => None,
+                    Err(error) => Some(error),
+                };
+            }
+            Reader::IanaIdentifier => {
+                return match self.zones.parse_iana_identifier_located() {
+                    Ok(_found) => None,
+                    Err(error) => Some(error),
+                };
+            }
+            Reader::Duration => {
+                return match self.durations.parse_located() {
+                    Ok(_found) => None,
+                    Err(error) => Some(error),
+                };
+            }
+        };
+        match parts {
+            Ok(_found) => None,
+            Err(error) => Some(error),
         }
     }
 

@@ -7,7 +7,7 @@
 
 use crate::csv::Quoting;
 use crate::part::Part;
-use ixdtf::{Instant, LocatedError};
+use ixdtf::{Instant, LocatedReason};
 
 /// Why a line is refused.
 #[derive(Clone, Copy)]
@@ -41,8 +41,8 @@ pub struct WholeText<'a> {
 pub struct Unread<'a> {
     /// Whether the kind of text that the reader parses can have an offset after the time.
     pub has_offset: bool,
-    /// The error that the reader returned.
-    pub error: LocatedError,
+    /// The reason of the error that the reader returned, and the position of this error.
+    pub error: LocatedReason,
     /// The part of the line that is the text.
     pub part: Part<'a>,
 }
