@@ -81,20 +81,17 @@ fn read_other_to_print(
 }
 
 /// Reads the text by `parse`, and prints its canonical text.
-///
-/// The result of `parse` is not taken apart by value, because then the record would be copied twice.
 #[inline(always)]
 fn print_date_time(text: &[u8], printed: &mut PrintedText) -> Result<(), LocatedError>
     requires { length text.now ≤ 65536 }
     ensures { PrintsCanonical parse (UnhandledRecord parse) canonical_text text.now result printed.new }
 {
-    let read = IxdtfParser::from_utf8(text).parse_located();
-    match &read {
+    match IxdtfParser::from_utf8(text).parse_located() {
         Ok(parts) => {
-            printed.print(parts);
+            printed.print(&parts);
             Ok(())
         }
-        Err(error) => Err(*error),
+        Err(error) => Err(error),
     }
 }
 

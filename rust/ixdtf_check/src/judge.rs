@@ -109,7 +109,10 @@ fn judge_text<'a>(
 ) {
     match request.task {
         Task::Check(kind) => judge_check(kind, request.profile, part, verdict),
-        Task::Print(kind) => judge_print(kind, request.profile, part, printed, verdict),
+        Task::Print(kind) => match read_to_print(kind, request.profile, part.text, printed) {
+            Ok(()) => *verdict = Verdict::Printed,
+            Err(error) => refuse(verdict, kind.has_offset(), error, part),
+        },
         Task::Order(kind) => judge_order(kind, last, part, verdict),
     }
 }
@@ -143,23 +146,6 @@ fn judge_check<'a>(kind: Kind, profile: Profile, part: Part<'a>, verdict: &mut V
 fn judge_other_check<'a>(kind: Kind, profile: Profile, part: Part<'a>, verdict: &mut Verdict<'a>) {
     match read(kind, profile, part.text) {
         Ok(()) => {}
-        Err(error) => refuse(verdict, kind.has_offset(), error, part),
-    }
-}
-
-/// Writes the verdict on a text whose canonical text is printed, if a reader accepts it.
-///
-/// The function is not inlined: otherwise its local variables would be set to zero also for each line that is only checked.
-#[inline(never)]
-fn judge_print<'a>(
-    kind: Kind,
-    profile: Profile,
-    part: Part<'a>,
-    printed: &mut PrintedText,
-    verdict: &mut Verdict<'a>,
-) {
-    match read_to_print(kind, profile, part.text, printed) {
-        Ok(()) => *verdict = Verdict::Printed,
         Err(error) => refuse(verdict, kind.has_offset(), error, part),
     }
 }
