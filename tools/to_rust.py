@@ -132,7 +132,7 @@ WRITTEN_BY_HAND = {'rust/ixdtf/src/from_text.rs', 'rust/ixdtf/src/runtime.rs', '
 # files that are copied, because a package cannot have a file from outside of its folder
 COPIES = {'rust/ixdtf/tests/places.tsv': 'tools/places.tsv'}
 DERIVES = {'Clone', 'Copy', 'Debug', 'Default', 'Eq', 'Hash', 'Ord', 'PartialEq', 'PartialOrd'}
-KEPT_ATTRIBUTES = {'inline', 'inline(always)', 'inline(never)', 'cold', 'doc(hidden)'}
+KEPT_ATTRIBUTES = {'inline', 'inline(always)', 'inline(never)', 'cold', 'doc(hidden)', 'allow(clippy::needless_match)'}
 TEST_ATTRIBUTES = {'test', 'cfg(test)'}
 # for a crate with functions for C: the attributes of its structs and functions, and the head of such a function
 EXPORT_ATTRIBUTES = {'repr(C)', 'unsafe(no_mangle)'}

@@ -1,10 +1,11 @@
 -- Proves which bytes a printed text has.
 use Rattle.std.proofs.Common.{◌≡◌, ◌≤◌, ◌<◌, ◌∙◌, ◌+◌, ℕ, List, [], ◌∷◌, ◌++◌, length, map, take, codes, Result, Ok, Err, IfOk, refl, sym, ap, arith, append_assoc}
 use Rattle.std.proofs.lemmas.List.{length-map}
-use Rattle.ixdtf.specs.language.{Digits.padded_digits, Letters.{Text, byte_letter}, Languages.Found}
+use Rattle.ixdtf.specs.{Handlers.UnhandledRecord, table.Faults.fault_of, language.{Digits.padded_digits, Letters.{Text, byte_letter}, Languages.{Found, Parsed, Found.parsed}, Readers.{CoreKind, Reader.bracketed}}}
+use Rattle.ixdtf_grammar.specs.{Promises.ReadsText, Views.UnreadUnder}
 use Rattle.ixdtf_buffers.specs.Adding.{Adds}
 use Rattle.ixdtf_print.specs.declared.error.PrintError.{PrintError, TheVariants.{NotPrintable, TooShort}}
-use Rattle.ixdtf_print.specs.{Printing.PrintsOrRefuses, Prints.Prints, Shown.code_point}
+use Rattle.ixdtf_print.specs.{Printing.{FitsWithin, HasText, PrintsOrRefuses}, Prints.Prints, Shown.code_point}
 use Rattle.ixdtf_print.proofs.code.PutBytes.{front_of_new}
 use Rattle.ixdtf_answers.specs.{Answer.{Gives, letters, read_answer_of}, Fields.nine_digits_of, Parts.{HasPrinted, IsPrinted}, Word.reader_of, declared.word.Word.Word}
 
@@ -45,6 +46,17 @@ is_printed word text found canonical {result = result} gives answer fits few roo
     let short : length canonical < 4352 = omega (arith, fits, few, length-map text byte_letter) in
     let front = printed_front result prints is (omega (arith, room, short)) counted in
     record { ok = has_printed word text found canonical _ _ gives answer short front; err = tt }
+
+-- As above, if a reader of records returned the record. Its canonical text has at most `more` code units more than the text.
+pub record_printed : {X : Type 0} {view : X → Parsed} {kind : CoreKind} {before after : UnreadUnder} {x : X} {old new : List ℕ} {count : ℕ} {result : Result ℕ PrintError}
+    → (word : Word) (text : List ℕ) (text_of : Parsed → Text) (more : ℕ) → reader_of word ≡ bracketed kind → before.rest ≡ text
+    → ReadsText byte_letter fault_of view (bracketed kind) before (Ok x) after → FitsWithin more (UnhandledRecord (bracketed kind)) text_of → more ≤ 255
+    → codes "ok " ++ map code_point (text_of (view x)) ≡ read_answer_of word (parsed (view x)) → length text ≤ 4096 → 4352 ≤ length old
+    → PrintsOrRefuses (HasText (UnhandledRecord (bracketed kind)) (view x)) (text_of (view x)) old new result → IfOk result (λ n. count ≡ n) → IsPrinted word text new (Ok count)
+record_printed {view = view} {kind = kind} {x = x} word text text_of more reader rest reads fits few answer short room prints counted =
+    let found = view x in
+    let given : UnhandledRecord (bracketed kind) (letters text) found = rw (← rest) ((reads.ok found).0 refl) in
+    is_printed word text (parsed found) (text_of found) (rw reader given) answer (omega (arith, fits (letters text) found given, few)) short room (letters text, given) prints counted
 
 -- Nine digits were printed after the added bytes, so they were added too.
 pub adds_digits : {old mid new : List ℕ} {at from to : ℕ} {first : List ℕ} (number : ℕ) → Adds old mid at from first → from ≤ length mid

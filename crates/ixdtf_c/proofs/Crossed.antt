@@ -63,15 +63,17 @@ module _ {X : Type 0} (view : X → Parsed) (r : Result X LocatedError) {Says : 
   outcome_err is named written = let (outcome, has, says) = read in
       (outcome, says, rw (outcome_is view r has) (gives_err (λ found. found) view r old is named written))
 
+-- A reader that has all code units of a text to read has this text to read.
+pub same_text : {U : Type 0} (letter : ℕ → Letter) (number : U → ℕ) (units : List U) {rest : List ℕ} → rest ≡ map number units
+    → map letter rest ≡ map (λ unit. letter (number unit)) units
+same_text letter number units all = ap (map letter) all ∙ map-map letter number units
+
 -- A reader had the code units of the text to read. Its contract gives the contract of the function for C.
 module _ {U X A : Type 0} {letter : ℕ → Letter} (number : U → ℕ) (units : List U) {view : X → A} {part : A → Found} {reader : Reader}
     {parser after : Unread} {r : Result X LocatedError}
     (reads : ReadsPartAt letter view part reader parser r after) (rest : parser.rest ≡ map number units) where
-  same_text : map letter parser.rest ≡ map (λ unit. letter (number unit)) units
-  same_text = ap (map letter) rest ∙ map-map letter number units
-
   reads_part : ReadsPart reader part (map (λ unit. letter (number unit)) units) (returned_at view r)
-  reads_part = rw (← same_text) (record {
+  reads_part = rw (← (same_text letter number units rest)) (record {
     ok = λ found. crossed_found view r found _ (reads.ok found);
     err = crossed_err _ view r reads.err;
     no_row = crossed_ok _ view r reads.no_row;
@@ -100,7 +102,7 @@ module _ {U : Type 0} {letter : ℕ → Letter} (number : U → ℕ) (units : Li
   lasts gives = rw (← under) (
     returned_at _ r,
     reads_part number units reads rest,
-    crossed_ok _ _ r (rw (same_text number units reads rest) at no_other_reader),
+    crossed_ok _ _ r (rw (same_text letter number units rest) at no_other_reader),
     gives,
   )
 

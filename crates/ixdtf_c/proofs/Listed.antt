@@ -7,10 +7,10 @@ use Rattle.ixdtf_grammar.specs.declared.reason.Reason.{Reason}
 use Rattle.ixdtf.specs.language.{Brackets.Pair, Letters.{Letter, Text}, Readers.{Reader, CoreKind, Reader.bracketed}, Languages.{Parsed, Derives, Derives.as_parsed}}
 use Rattle.ixdtf.specs.{language.Languages.Found.parsed, table.{Faults.Fault, Outcomes.{HasFaultAt, NoRowFits}}}
 use Rattle.ixdtf.specs.{Laws.InNoOther, Places.{GivesFaultAt, HandledToAt}, Handlers.{Reply, first_calendar, calendar_value, with_calendar, RefusedBeside}}
-use Rattle.ixdtf.specs.Handlers.{NoneRefused, LastRefused, GivesRecord, GivesFault, pair_of, Calls, handed, replies_of, Step, IsChain}
-use Rattle.ixdtf_reading.proofs.theorems.{OneOutcome.place_once, OnlyOutcome.only_fault, Replies.{nones, first_calendar-nones, each_is_none}}
+use Rattle.ixdtf.specs.{Handlers.{NoneRefused, LastRefused, GivesRecord, GivesFault, pair_of, Calls, handed, replies_of, Step, IsChain}, Readings.HandlesTextTo, Views.UnreadUnder}
+use Rattle.ixdtf_reading.proofs.theorems.{Handled.NoReplies, OneOutcome.place_once, OnlyOutcome.only_fault, Replies.{nones, first_calendar-nones, each_is_none}}
 use Rattle.ixdtf_c.specs.{Listing.{PassesOver, overwritten, Lists}, Located.{FaultAt, HasOutcome}}
-use Rattle.ixdtf_c.proofs.Crossed.{same_ok}
+use Rattle.ixdtf_c.proofs.Crossed.{same_ok, same_text}
 
 -- ---- What is written.
 
@@ -105,15 +105,10 @@ module _ (kind : CoreKind) (text : Text) where
 
 -- The statement about a list is also true of an array and a count that are equal to those of the list.
 pub lists_left : {A : Type 0} {view : A → Pair} {profile : Profile} {reader : Reader} {text : Text} {old new slots : List A} {count number : ℕ}
-    {outcome : Result Parsed FaultAt}
-    → slots ≡ new → number ≡ count → Lists view profile reader text old new count outcome → Lists view profile reader text old slots number outcome
-lists_left same as_many listing = rw (same, as_many) listing
-
-pub slots_left : {A : Type 0} {view : A → Pair} {profile : Profile} {reader : Reader} {text : Text} {old new slots : List A} {count : ℕ}
     {Has : Result Parsed FaultAt → Type 0}
-    → slots ≡ new → (outcome : Result Parsed FaultAt) × Has outcome × Lists view profile reader text old new count outcome
-    → (outcome : Result Parsed FaultAt) × Has outcome × Lists view profile reader text old slots count outcome
-slots_left same (outcome, has, listing) = (outcome, has, lists_left same refl listing)
+    → slots ≡ new → number ≡ count → (outcome : Result Parsed FaultAt) × Has outcome × Lists view profile reader text old new count outcome
+    → (outcome : Result Parsed FaultAt) × Has outcome × Lists view profile reader text old slots number outcome
+lists_left same as_many (outcome, has, listing) = (outcome, has, rw (same, as_many) listing)
 
 -- The text has at least five code units for each annotation that is dropped.
 passed_few : (profile : Profile) (kind : CoreKind) (text : Text) (pairs : List Pair) (outcome : Result Parsed FaultAt)
@@ -140,21 +135,23 @@ ListsEach {T} {U} {A} {F} number view step count slots limit =
     × (item : A) × (view item ≡ pair_of number annotation) × (slots next ≡ slice_set (slots state) (count state) item)
 
 -- If each call leaves a value unchanged, the chain of calls leaves it unchanged.
-pub kept : {T U F X : Type 0} (step : Step T U F) (name : F → X)
+kept : {T U F X : Type 0} (step : Step T U F) (name : F → X)
     → ((state : F) (annotation : Annotation T U) (reply : Option (Annotation T U)) (next : F) → step state annotation reply next → name next ≡ name state)
     → (calls : Calls T U) (state last : F) → IsChain step state calls last → name state ≡ name last
 kept step name each [] state last chain = ap name chain
 kept step name each (call ∷ calls) state last (next, stepped, chain) =
     sym (each state call.0 call.1 next stepped) ∙ kept step name each calls next last chain
 
+-- If the reply of each call is `None`, all replies are.
+pub replies_none : {T U F : Type 0} (number : U → ℕ) {step : Step T U F} → NoReplies step → (calls : Calls T U) (state last : F)
+    → IsChain step state calls last → replies_of number calls ≡ nones calls
+replies_none number none [] state last chain = refl
+replies_none number none (call ∷ calls) state last (next, stepped, chain) =
+    let head = none state call.0 call.1 next stepped in
+    let tail = replies_none number none calls next last chain in λ i. option_map (pair_of number) (head i) ∷ tail i
+
 module _ {T U A F : Type 0} (number : U → ℕ) (view : A → Pair) (step : Step T U F) (count : F → ℕ) (slots : F → List A) (limit : ℕ)
     (each : ListsEach number view step count slots limit) where
-  replies_none : (calls : Calls T U) (state last : F) → IsChain step state calls last → replies_of number calls ≡ nones calls
-  replies_none [] state last chain = refl
-  replies_none (call ∷ calls) state last (next, stepped, chain) =
-      let head = (each state call.0 call.1 next stepped).0 in
-      let tail = replies_none calls next last chain in λ i. option_map (pair_of number) (head i) ∷ tail i
-
   -- The items `before` were written first. The calls write the others after them.
   listed : (old : List A) (calls : Calls T U) (state last : F) → IsChain step state calls last → (before : List A)
       → count state ≡ length before → slots state ≡ overwritten old before → length before + length calls ≤ limit
@@ -173,7 +170,7 @@ module _ {T U A F : Type 0} (number : U → ℕ) (view : A → Pair) (step : Ste
       (item ∷ items, (λ i. seen i ∷ shown i), rw (← whole) counted_all, rw (← whole) written_all)
 
   -- The contract of a reader with a handler that lists the annotations.
-  pub lists : (profile : Profile) (kind : CoreKind) (text : Text) (state last : F)
+  lists : (profile : Profile) (kind : CoreKind) (text : Text) (state last : F)
       → {X E : Type 0} (named : E → Fault) (stands : Reason → ℕ → E → Type 0) (seen : X → Parsed) (result : Result X E)
       → HandledToAt number step state last (bracketed kind) text named stands seen result
       → OnOk result (NoRowFits (bracketed kind) text) → OnOk result (InNoOther profile (bracketed kind) text)
@@ -184,7 +181,7 @@ module _ {T U A F : Type 0} (number : U → ℕ) (view : A → Pair) (step : Ste
     where
       none : {r : Result X E} (h : HandledToAt number step state last (bracketed kind) text named stands seen r)
           → replies_of number h.plain.calls ≡ nones h.plain.calls
-      none h = replies_none h.plain.calls state last h.plain.chain
+      none h = replies_none number (λ state annotation reply next stepped. (each state annotation reply next stepped).0) h.plain.calls state last h.plain.chain
 
       -- The list of the calls that were made, with this outcome.
       listing : {r : Result X E} (h : HandledToAt number step state last (bracketed kind) text named stands seen r) (outcome : Result Parsed FaultAt)
@@ -229,3 +226,24 @@ module _ {T U A F : Type 0} (number : U → ℕ) (view : A → Pair) (step : Ste
             ))
                 (λ other is. let it : fault_at ≡ other = cc in rw (← it, ← none h) gives) tt tt,
           )
+
+-- The reader had all code units of a text to read. The handler also keeps its reference to the list (`loan`), and the list keeps its
+-- reference to the array (`name`).
+module _ {T U A F L N X E : Type 0} {letter : ℕ → Letter} {number : U → ℕ} {step : Step T U F} {handler last : F} {named : E → Fault}
+    {stands : Reason → ℕ → E → Type 0} {seen : X → Parsed} {kind : CoreKind} {parser after : UnreadUnder} {result : Result X E}
+    (handles : HandlesTextTo letter number step handler last named stands seen (bracketed kind) parser result after)
+    (units : List U) (rest : parser.rest ≡ map number units) (view : A → Pair) (loan : F → L) (name : F → N) (count : F → ℕ) (slots : F → List A)
+    (limit : ℕ) (fits : length units ≤ limit) (none : count handler ≡ 0) (each : ListsEach number view step count slots limit)
+    (keeps : (state : F) (annotation : Annotation T U) (reply : Option (Annotation T U)) (next : F) → step state annotation reply next
+    → (loan next ≡ loan state) × (name next ≡ name state)) where
+  pub lists_units : (loan handler ≡ loan last) × (name handler ≡ name last)
+      × ((outcome : Result Parsed FaultAt) × HasOutcome named stands seen result outcome
+      × Lists view parser.profile (bracketed kind) (map (λ unit. letter (number unit)) units) (slots handler) (slots last) (count last) outcome)
+  lists_units =
+      let h = handles.handled in
+      let short : length (map letter parser.rest) ≤ limit = rw (rest, length-map (map number units) letter, length-map units number) fits in (
+        kept step loan (λ state annotation reply next stepped. (keeps state annotation reply next stepped).0) h.plain.calls handler last h.plain.chain,
+        kept step name (λ state annotation reply next stepped. (keeps state annotation reply next stepped).1) h.plain.calls handler last h.plain.chain,
+        rw (← (same_text letter number units rest)) (lists number view step count slots limit each parser.profile kind (map letter parser.rest) handler last
+            named stands seen result h handles.no_row handles.no_other_reader none short),
+      )

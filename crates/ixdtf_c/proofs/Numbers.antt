@@ -1,6 +1,7 @@
--- The numbers of errors.
-use Rattle.std.proofs.Common.{◌≡◌, ◌≢◌, ℕ, ◌+◌, ◌-◌, ◌≤◌, ◌<◌, suc, zero, List, [], ◌∷◌, get_or, Option, refl, ◌∙◌, ap, inl, inr, arith}
-use Rattle.std.proofs.Math.ListN.{get_or-map}
+-- The numbers of errors, and the items of a list whose numbers are in order.
+use Rattle.std.proofs.Common.{◌≡◌, ◌≢◌, ℕ, ◌-◌, ◌≤◌, List, [], ◌∷◌, map, get_or, Option, refl, ◌∙◌, ap, inl, inr, arith}
+use Rattle.std.proofs.{Math.ListN.get_or-map, lemmas.List.FromFn.get_or-range_with_len}
+use Rattle.std.specs.List.{range_with_len}
 use Rattle.ixdtf.specs.table.Faults.{Fault, Fault.{ImplAssert, NonAsciiCodePoint, ParseFloat, AbruptEnd, InvalidEnd, InvalidMonthRange, InvalidDayRange}}
 use Rattle.ixdtf.specs.table.Faults.Fault.{DateYear, DateExtendedYear, DateMonth, DateDay, DateUnexpectedEnd, TimeRequired, TimeHour, TimeMinuteSecond}
 use Rattle.ixdtf.specs.table.Faults.Fault.{TimeSecond, FractionPart, DateSeparator, TimeSeparator, DecimalSeparator, InvalidAnnotation, AnnotationOpen}
@@ -31,23 +32,16 @@ faults_at location =
 pub number_some : (fault : Fault) → number_for fault ≢ 0
 number_some fault is = omega (arith, is)
 
--- The list of `n` numbers that begins at `from`.
-counted : ℕ → ℕ → List ℕ
-counted from zero = []
-counted from (suc n) = from ∷ counted (from + 1) n
-
-counted_at : (from n i d : ℕ) → i < n → get_or (counted from n) i d ≡ from + i
-unfolding counted
-counted_at from zero i d less = absurd (omega (arith, less))
-counted_at from (suc n) zero d less = omega arith
-counted_at from (suc n) (suc i) d less = counted_at (from + 1) n i d (omega (arith, less)) ∙ omega arith
+-- If the items of a list have the numbers 1 to `most`, in order, the item at the index `number - 1` has this number.
+pub in_order : {A : Type 0} (number_of : A → ℕ) (items : List A) (most : ℕ) → map number_of items ≡ range_with_len 1 most
+    → (number : ℕ) (other : A) → 1 ≤ number → number ≤ most → number_of (get_or items (number - 1) other) ≡ number
+in_order number_of items most numbers number other from to =
+    rw (← (get_or-map number_of items (number - 1) other), numbers)
+    (get_or-range_with_len 1 most (number - 1) (number_of other) (omega (arith, from, to)) ∙ omega (arith, from))
 
 -- The error at the index `number - 1` has this number.
 pub numbered : (number : ℕ) (other : Fault) → 1 ≤ number → number ≤ 46 → number_for (get_or (faults_at []) (number - 1) other) ≡ number
-unfolding counted
-numbered number other from to =
-    let at : number_for (get_or (faults_at []) (number - 1) other) ≡ get_or (counted 1 46) (number - 1) (number_for other) = rw (← get_or-map number_for) refl in
-    at ∙ counted_at 1 46 (number - 1) (number_for other) (omega (arith, from, to)) ∙ omega (arith, from)
+numbered = in_order number_for (faults_at []) 46 refl
 
 -- The error of a refused reply has no location.
 pub nowhere : (first : Option Pair) (reply : Reply) (fault : Fault) → RefusedBeside first reply fault → location_of fault ≡ []

@@ -4,6 +4,14 @@ use Rattle.std.proofs.lemmas.Nat.{div-add-mod', mul-mod_first, pow-add}
 use Rattle.std.proofs.Math.Nat.{mul-mod_left, mul-le-mul_right, one-le-pow, pow-le-pow_right}
 use Rattle.ixdtf_c.specs.Computed.{AreExactly}
 
+-- ---- The exponent of a power of ten, written in another way.
+
+pub power_of : {power exponent digits : ℕ} → power ≡ 10 ^ exponent → exponent ≡ digits → power ≡ 10 ^ digits
+power_of is same = is ∙ ap (λ k. 10 ^ k) same
+
+pub below_power : {value power exponent digits : ℕ} → value < power → power ≡ 10 ^ exponent → exponent ≡ digits → value < 10 ^ digits
+below_power less is same = rw (power_of is same) at less
+
 -- ---- The quotient and the remainder are multiplied separately.
 
 pub whole_part : (value divisor seconds : ℕ) → (value % divisor * seconds) % divisor ≡ 0

@@ -1,22 +1,23 @@
 -- Records that can be printed, and records that were read.
 use Rattle.ixdtf_grammar.specs.declared.records.UtcOffsetRecord.TheVariants as offsets
 use Rattle.ixdtf_grammar.specs.declared.records.UtcOffsetRecordOrZ.TheVariants as shifts
-use Rattle.std.proofs.Common.{refl, sym, true≢false, ◌∙◌, ◌≡◌, ◌≢◌, ◌≤◌, ◌+◌, ℕ, Bool, false, not, inl, inr, ap, if◌then◌else◌, List, length, Option, Some, None, IfSome}
-use Rattle.std.proofs.{Common.{IsSomeAnd, Result, Ok, Err, IfOk, OnOk, take, arith}, lemmas.Bool.Decides.eqb_tells}
+use Rattle.std.proofs.Common.{refl, sym, true≢false, ◌∙◌, ◌≡◌, ◌≢◌, ◌↔◌, ◌≤◌, ◌+◌, ℕ, Bool, IsTrue, false, not, inl, inr, ap, if◌then◌else◌, List, length, Option, Some, None, IfSome}
+use Rattle.std.proofs.{Common.{IsSomeAnd, Result, Ok, Err, IfOk, OnOk, map, take, arith}, lemmas.Bool.Decides.eqb_tells}
 use Rattle.ixdtf_grammar.specs.declared.records.DurationParseRecord.{DurationParseRecord}
 use Rattle.ixdtf_grammar.specs.declared.{profile.Profile.{Profile, TheVariants.Crate}, records.{DateRecord.DateRecord, MinutePrecisionOffset.MinutePrecisionOffset, Sign.Sign}}
 use Rattle.ixdtf_grammar.specs.declared.records.{Sign.TheVariants.{Positive, Negative}, TimeDurationRecord.TimeDurationRecord, TimeRecord.TimeRecord}
 use Rattle.ixdtf_grammar.specs.declared.records.UtcOffsetRecordOrZ.{UtcOffsetRecordOrZ}
-use Rattle.ixdtf.specs.language.{Brackets.ZoneNote, Fractions.FractionParts, Languages.Parsed, Letters.{Letter, Text, byte_letter, wide_letter}, OffsetRecords.sign_for, Readers.{parse, CoreKind.date_time}}
+use Rattle.ixdtf.specs.language.{Brackets.ZoneNote, Cores.core_of, Fractions.FractionParts, Languages.Parsed, Letters.{Letter, Text, byte_letter, wide_letter}, OffsetRecords.sign_for, Readers.{parse, CoreKind.date_time}}
 use Rattle.ixdtf.specs.{language.ZoneNames.{Zone as SomeZone, Zone.{Name, Offset as ByOffset}}, Handlers.UnhandledRecord, Widths.wide_text}
 use Rattle.ixdtf_c.specs.Crossing.{Contents, DurationContents, digits_for, value_for, is_negative, date_for, time_for, offset_for, area_for, zone_for, units_for, is_there}
 use Rattle.ixdtf_c.specs.{Crossing.record_for, Instants.shift_fraction, Outcomes.GivesRecord, Printing.{HaveDigits, PrintsText, text_where}}
 use Rattle.ixdtf_c.specs.Standing.{where_there, fraction_by, date_by, time_by, minutes_by, offset_by, zone_by, parsed_by, record_by, lasting_by, shift_alone}
 use Rattle.ixdtf_c.proofs.Numbers.{number_some}
 use Rattle.ixdtf_print.specs.{Canonical.canonical_text, Durations.{duration_text, IsPrintableDuration, IsDurationReadBack}, Printable.IsPrintable, Spelled.{HasTime, HasDigits, IsDayTime, IsShift}}
-use Rattle.ixdtf_print.specs.{Times.IsPrintableTime, YearMonths.IsPrintableYearMonth, MonthDays.IsPrintableMonthDay, SpelledCores.{HasLoneTime, HasLoneMonth, HasLoneDay}}
+use Rattle.ixdtf_print.specs.{Times.IsPrintableTime, YearMonths.IsPrintableYearMonth, MonthDays.IsPrintableMonthDay, SpelledCores.{HasLoneTime, HasLoneMonth, HasLoneDay, IsSpelledAs}}
 use Rattle.ixdtf_print.{specs.declared.error.PrintError.{PrintError, TheVariants.NotPrintable}, proofs.theorems.ShortDurations.duration_most}
-use Rattle.ixdtf_print.proofs.theorems.{PrintableTimes.tests_time, PrintableYearMonths.tests_year_month, PrintableMonthDays.tests_month_day}
+use Rattle.ixdtf_print.proofs.theorems.{PrintableTimes.tests_time, PrintableYearMonths.{tests_year_month, is_core as month_core}}
+use Rattle.ixdtf_print.proofs.theorems.PrintableMonthDays.{tests_month_day, is_core as day_core}
 use Rattle.ixdtf_print.specs.{Offsets.IsPrintableOffset, Printing.{HasText, HasOneText, PrintsOrRefuses}, SpelledDurations.HasTimeUnits}
 use Rattle.ixdtf_print.proofs.{parts.ParsedParts.to_parts, theorems.{PrintableDurations.printable_duration, PrintableOffsets.printable_offset, PrintableRecords.{printable_iff, of_record}}}
 
@@ -66,7 +67,7 @@ module _ (r : Contents) where
   counted_zone is = (counted_parts (offset_by r.offset) (zone_by r.zone) is).2
 
 -- If `P` gives `Q` for each value, and a value with `P` is present, then a value with `Q` is present.
-pub on_some : {A : Type 0} {P Q : A → Type 0} (x : Option A) → ((a : A) → P a → Q a) → IsSomeAnd x P → IsSomeAnd x Q
+on_some : {A : Type 0} {P Q : A → Type 0} (x : Option A) → ((a : A) → P a → Q a) → IsSomeAnd x P → IsSomeAnd x Q
 on_some None f is = absurd is
 on_some (Some a) f is = f a is
 
@@ -76,40 +77,43 @@ not_some None f none is = absurd is
 not_some (Some a) f none is = f a none is
 
 -- The fractions of a record that can be printed are valid.
-pub digits_of_record : (found : Parsed) → IsPrintable found → HaveDigits found
+digits_of_record : (found : Parsed) → IsPrintable found → HaveDigits found
 digits_of_record found is = digits_of_both found.time found.offset ((printable_iff found).0 is).time
 
+-- If a struct stands for a printable record, it stands for a record with valid fractions.
+pub counted_record : (r : Contents) → IsSomeAnd (record_by r) IsPrintable → IsSomeAnd (record_by r) HaveDigits
+counted_record r = on_some (record_by r) digits_of_record
+
+-- If each record with such parts before its brackets has valid fractions, a record whose fractions are not valid is not printable.
+not_spelled : (has_core : Option DateRecord → Option TimeRecord → Option UtcOffsetRecordOrZ → Type 0) {printable : Type 0} (found : Parsed)
+    → ((IsTrue false ↔ IsSpelledAs has_core found) → IsTrue false ↔ printable) → (has_core found.date found.time found.offset → HaveDigits found)
+    → ¬ (HaveDigits found) → ¬ printable
+not_spelled has_core found tests digits none is =
+    true≢false (sym ((tests ((λ no. absurd (true≢false (sym no))), λ s. absurd (none (digits s.0)))).1 is))
+
+digits_of_lone_time : (date : Option DateRecord) (time : Option TimeRecord) (offset : Option UtcOffsetRecordOrZ) → HasLoneTime date time offset
+    → IfSome time (λ it. HasDigits it.fraction) × IfSome offset (λ shift. HasDigits (shift_fraction shift))
+digits_of_lone_time None None offset has = absurd has
+digits_of_lone_time None (Some time) offset has = digits_of_both (Some time) offset has
+digits_of_lone_time (Some date) time offset has = absurd has
+
 pub no_time : (found : Parsed) → ¬ (HaveDigits found) → ¬ (IsPrintableTime found)
-no_time found none is =
-    true≢false (sym ((tests_time {test = false} found (λ no. absurd (true≢false (sym no)), λ s. absurd (none (go found.date found.time found.offset s.0)))).tests.1 is))
-  where
-    go : (date : Option DateRecord) (time : Option TimeRecord) (offset : Option UtcOffsetRecordOrZ) → HasLoneTime date time offset
-        → IfSome time (λ it. HasDigits it.fraction) × IfSome offset (λ shift. HasDigits (shift_fraction shift))
-    go None None offset has = absurd has
-    go None (Some time) offset has = digits_of_both (Some time) offset has
-    go (Some date) time offset has = absurd has
+no_time found = not_spelled HasLoneTime found (λ both. (tests_time {test = false} found both).tests) (digits_of_lone_time found.date found.time found.offset)
+
+-- A record that has only a date before its brackets has no fractions.
+digits_of_lone_date : (found : Parsed) (date : Option DateRecord) → core_of found.date found.time found.offset ≡ core_of date None None → HaveDigits found
+digits_of_lone_date found date has =
+    let timeless : found.time ≡ None = ap (λ core. core.time) has in
+    let unshifted : found.offset ≡ None = ap (λ core. core.offset) has in
+    rw (timeless, unshifted) (tt, tt)
 
 pub no_year_month : (found : Parsed) → ¬ (HaveDigits found) → ¬ (IsPrintableYearMonth found)
-no_year_month found none is =
-    true≢false (sym ((tests_year_month {test = false} found (λ no. absurd (true≢false (sym no)), λ s. absurd (none (go found.date found.time found.offset s.0)))).tests.1 is))
-  where
-    go : (date : Option DateRecord) (time : Option TimeRecord) (offset : Option UtcOffsetRecordOrZ) → HasLoneMonth date time offset
-        → IfSome time (λ it. HasDigits it.fraction) × IfSome offset (λ shift. HasDigits (shift_fraction shift))
-    go None time offset has = absurd has
-    go (Some date) None None has = (tt, tt)
-    go (Some date) None (Some offset) has = absurd has
-    go (Some date) (Some time) offset has = absurd has
+no_year_month found = not_spelled HasLoneMonth found (λ both. (tests_year_month {test = false} found both).tests)
+    (λ has. digits_of_lone_date found _ (month_core found.date found.time found.offset has).2)
 
 pub no_month_day : (found : Parsed) → ¬ (HaveDigits found) → ¬ (IsPrintableMonthDay found)
-no_month_day found none is =
-    true≢false (sym ((tests_month_day {test = false} found (λ no. absurd (true≢false (sym no)), λ s. absurd (none (go found.date found.time found.offset s.0)))).tests.1 is))
-  where
-    go : (date : Option DateRecord) (time : Option TimeRecord) (offset : Option UtcOffsetRecordOrZ) → HasLoneDay Crate date time offset
-        → IfSome time (λ it. HasDigits it.fraction) × IfSome offset (λ shift. HasDigits (shift_fraction shift))
-    go None time offset has = absurd has
-    go (Some date) None None has = (tt, tt)
-    go (Some date) None (Some offset) has = absurd has
-    go (Some date) (Some time) offset has = absurd has
+no_month_day found = not_spelled (HasLoneDay Crate) found (λ both. (tests_month_day {test = false} found both).tests)
+    (λ has. digits_of_lone_date found _ (day_core Crate found.date found.time found.offset has).2)
 
 -- ---- The struct that is written for a printable record stands for this record.
 
@@ -219,27 +223,22 @@ refused none = record {
 
 -- What a printer of the library for 8-bit text ensures, and what one for 16-bit text ensures.
 module _ {printable : Type 0} {canonical : Text} {old new : List ℕ} {result : Result ℕ PrintError} (prints : PrintsOrRefuses printable canonical old new result) where
-  pub prints_bytes : PrintsText byte_letter printable canonical old new result
-  prints_bytes = record {
+  prints_as : {letter : ℕ → Letter} → IfOk result (λ n. map letter (take n new) ≡ canonical) → PrintsText letter printable canonical old new result
+  prints_as text = record {
     count = prints.count;
     fits = prints.fits;
-    text = prints.text;
+    text = text;
     rest = prints.rest;
     not_printable = prints.not_printable;
     too_short = prints.too_short;
     unchanged = prints.unchanged;
   }
 
+  pub prints_bytes : PrintsText byte_letter printable canonical old new result
+  prints_bytes = prints_as prints.text
+
   pub prints_wide : IfOk result (λ n. wide_text (take n new) ≡ canonical) → PrintsText wide_letter printable canonical old new result
-  prints_wide wide = record {
-    count = prints.count;
-    fits = prints.fits;
-    text = wide;
-    rest = prints.rest;
-    not_printable = prints.not_printable;
-    too_short = prints.too_short;
-    unchanged = prints.unchanged;
-  }
+  prints_wide wide = prints_as wide
 
 -- A statement about a value, if one is present, and about its text.
 module _ {A : Type 0} (text_of : A → Text) (Q : Text → Type 0) (P : A → Type 0) where
@@ -247,13 +246,9 @@ module _ {A : Type 0} (text_of : A → Text) (Q : Text → Type 0) (P : A → Ty
   text_some None is q = absurd is
   text_some (Some a) is q = q
 
-  pub both_some : (x : Option A) → IsSomeAnd x P × Q (text_where text_of x) → IsSomeAnd x (λ a. P a × Q (text_of a))
-  both_some None is = absurd is.0
-  both_some (Some a) is = is
-
-  pub some_both : (x : Option A) → IsSomeAnd x (λ a. P a × Q (text_of a)) → IsSomeAnd x P × Q (text_where text_of x)
-  some_both None is = absurd is
-  some_both (Some a) is = is
+  pub told_some : (x : Option A) {told : Type 0} → told ↔ (IsSomeAnd x P × Q (text_where text_of x)) → told ↔ IsSomeAnd x (λ a. P a × Q (text_of a))
+  told_some None means = ((λ it. absurd (means.0 it).0), λ is. absurd is)
+  told_some (Some a) means = means
 
 -- The canonical text of a duration has at most 376 code units.
 pub short_text : (duration : Option DurationParseRecord) → IsSomeAnd duration IsPrintableDuration → length (text_where duration_text duration) ≤ 376

@@ -2,22 +2,18 @@
 use Rattle.std.proofs.Common.{◌≡◌, ℕ, Result, Ok, Err, OnOk, refl}
 use Rattle.ixdtf_grammar.specs.declared.{profile.Profile.Profile, reason.Reason.Reason}
 use Rattle.ixdtf.specs.{language.{Letters.Text, Readers.{CoreKind, Reader.bracketed}, Languages.Parsed}, table.Faults.Fault}
-use Rattle.ixdtf.specs.{table.Outcomes.NoRowFits, Laws.InNoOther, Places.{HandledToAt, UnhandledFaultAt}, Handlers.{Step, Handled, HandledTo, handed}}
-use Rattle.ixdtf_reading.proofs.theorems.{Handled.{OwnReplies, replies_own, unhandled_form}, OnePlace.one_unhandled_place}
+use Rattle.ixdtf.specs.{table.Outcomes.NoRowFits, Laws.InNoOther, Places.{HandledToAt, UnhandledFaultAt}, Handlers.{Step, handed}}
+use Rattle.ixdtf_reading.proofs.theorems.{Handled.{OwnReplies, by_value, replies_own, unhandled_form}, OnePlace.one_unhandled_place}
 use Rattle.ixdtf_c.specs.{Located.{FaultAt, HasOutcome}, Outcomes.ReadsRecord}
 use Rattle.ixdtf_c.proofs.Crossed.{same_ok}
 
 module _ {T U F : Type 0} (number : U → ℕ) (step : Step T U F) (handler last : F) (profile : Profile) (kind : CoreKind) (text : Text) (own : OwnReplies step) where
-  as_handled : {result : Result Parsed Fault} → HandledTo number step handler last (bracketed kind) text result
-      → Handled number step handler (bracketed kind) text result
-  as_handled h = record { calls = h.calls; last = last; chain = h.chain; ok = h.ok; err = h.err; only = h.only }
-
   pub reads : {X E : Type 0} (named : E → Fault) (stands : Reason → ℕ → E → Type 0) (view : X → Parsed) (result : Result X E)
       → HandledToAt number step handler last (bracketed kind) text named stands view result
       → OnOk result (NoRowFits (bracketed kind) text) → OnOk result (InNoOther profile (bracketed kind) text)
       → (outcome : Result Parsed FaultAt) × HasOutcome named stands view result outcome × ReadsRecord profile (bracketed kind) text outcome
   reads named stands view (Ok x) h no_row no_other_reader =
-      let form = unhandled_form (as_handled h.plain) own in (
+      let form = unhandled_form (by_value number step handler (bracketed kind) text (Ok (view x)) last h.plain) own in (
         Ok (view x),
         refl,
         record {
@@ -33,7 +29,7 @@ module _ {T U F : Type 0} (number : U → ℕ) (step : Step T U F) (handler last
         },
       )
   reads named stands view (Err e) h no_row no_other_reader =
-      let form = unhandled_form (as_handled h.plain) own in
+      let form = unhandled_form (by_value number step handler (bracketed kind) text (Err (named e)) last h.plain) own in
       let (reason, at, there, gives, because) = h.err e refl in
       let fault_at : FaultAt = record { fault = named e; at = at } in
       let given : UnhandledFaultAt (bracketed kind) text (named e) at = (

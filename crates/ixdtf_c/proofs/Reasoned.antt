@@ -1,5 +1,5 @@
 -- The reasons at the indices of their numbers, and their names.
-use Rattle.std.proofs.Common.{◌≡◌, ◌≢◌, ◌⊎◌, ℕ, ◌+◌, ◌-◌, ◌≤◌, ◌<◌, suc, zero, List, [], ◌∷◌, ◌++◌, map, get_or, refl, sym, ap, ◌∙◌, inl, inr, rules, arith}
+use Rattle.std.proofs.Common.{◌≡◌, ◌≢◌, ◌⊎◌, ℕ, ◌-◌, ◌≤◌, ◌<◌, List, [], map, get_or, refl, sym, ap, ◌∙◌, inl, inr, rules, arith}
 use Rattle.std.proofs.Math.ListN.{get_or-map}
 use Rattle.std.proofs.lemmas.{List.{get_or_default, get_or_past}, Bool.{ne_eqb, cases_lt}}
 use Rattle.ixdtf_grammar.specs.declared.reason.Reason.{Reason}
@@ -8,24 +8,11 @@ use Rattle.ixdtf_grammar.specs.contracts.reason.Reason.{the_type}
 use denote.Enum.Bare.{tag_one}
 use Rattle.ixdtf_grammar.specs.ReasonNames.{reason_name}
 use Rattle.ixdtf_c.specs.Reasons.{reason_number, reasons_in_order, line_of}
-
--- The list of `n` numbers that begins at `from`.
-counted : ℕ → ℕ → List ℕ
-counted from zero = []
-counted from (suc n) = from ∷ counted (from + 1) n
-
-counted_at : (from n i d : ℕ) → i < n → get_or (counted from n) i d ≡ from + i
-unfolding counted
-counted_at from zero i d less = absurd (omega (arith, less))
-counted_at from (suc n) zero d less = omega arith
-counted_at from (suc n) (suc i) d less = counted_at (from + 1) n i d (omega (arith, less)) ∙ omega arith
+use Rattle.ixdtf_c.proofs.{Named.{ended, ended_at}, Numbers.in_order}
 
 -- The reason at the index `number - 1` has this number.
 pub reason_at : (number : ℕ) (other : Reason) → 1 ≤ number → number ≤ 126 → reason_number (get_or reasons_in_order (number - 1) other) ≡ number
-unfolding counted
-reason_at number other from to =
-    let at : reason_number (get_or reasons_in_order (number - 1) other) ≡ get_or (counted 1 126) (number - 1) (reason_number other) = rw (← get_or-map reason_number) refl in
-    at ∙ counted_at 1 126 (number - 1) (reason_number other) (omega (arith, from, to)) ∙ omega (arith, from)
+reason_at = in_order reason_number reasons_in_order 126 refl
 
 -- Two reasons with one number are the same.
 pub same_reason : (one other : Reason) → reason_number one ≡ reason_number other → one ≡ other
@@ -35,14 +22,8 @@ same_reason one other same = tag_one the_type tt one other (omega (arith, same))
 abbrev reason_names : List (List ℕ)
 reason_names = map reason_name reasons_in_order
 
--- A name with a NUL after it.
-abbrev pub ended : List ℕ → List ℕ
-ended name = name ++ 0 ∷ []
-
 pub line_at : (number : ℕ) (other : List ℕ) → 1 ≤ number → number ≤ 126 → get_or (map ended reason_names) (number - 1) other ≡ ended (line_of number)
-line_at number other from to =
-    let at : get_or (map ended reason_names) (number - 1) other ≡ get_or (map ended reason_names) (number - 1) (ended []) = get_or_default (map ended reason_names) (number - 1) other (ended []) (omega (arith, from, to)) in
-    rw (ne_eqb number 0 (λ is. omega (arith, from, is))) (at ∙ get_or-map ended reason_names (number - 1) [])
+line_at number other from to = rw (ne_eqb number 0 (λ is. omega (arith, from, is))) (ended_at reason_names (number - 1) other (omega (arith, from, to)))
 
 -- A number outside of 1 to 126 has no name.
 pub no_line : (number : ℕ) → (number < 1) ⊎ (126 < number) → line_of number ≡ []

@@ -199,6 +199,13 @@ begun_first bs good some = begun_at (get_or bs 0 0) (λ big. (IsCharBoundary-sta
 pub boundary_at : (bs : List ℕ) (n : ℕ) → n ≤ length bs → (n < length bs → 128 ≤ get_or bs n 0 → 192 ≤ get_or bs n 0) → IsCharBoundary bs n
 boundary_at bs n within lead = (within, lead)
 
+-- The code counts the byte as the first one of a character, so the text can be cut before it.
+pub boundary_counted : (bs : List ℕ) (n counted : ℕ) (test : Bool) → n < length bs → test ≡ begins_character (get_or bs n 0) → counted ≡ bool_byte test → 1 ≤ counted
+    → IsCharBoundary bs n
+boundary_counted bs n counted test within is adds some =
+    let one = begun_counted (get_or bs n 0) counted test is adds in
+    boundary_at bs n (omega (arith, within)) (λ less. lead_begun (get_or bs n 0) (omega (arith, one, begun_most (get_or bs n 0), some)))
+
 -- The column of a byte is the number of characters before the first byte of its character.
 pub column_at : (bs : List ℕ) (at start : ℕ) → IsUtf8 bs → at < length bs → start ≤ at → starts (take (start + 1) bs) ≡ starts (take (at + 1) bs)
     → (128 ≤ get_or bs start 0 → 192 ≤ get_or bs start 0) → column_of (chars bs) at ≡ length (chars (take start bs))

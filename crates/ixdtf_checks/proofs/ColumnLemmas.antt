@@ -1,8 +1,9 @@
 -- Proves which field has a name.
-use Rattle.std.proofs.Common.{◌≡◌, ◌≢◌, ◌⊎◌, inl, inr, ℕ, zero, suc, ◌+◌, ◌-◌, ◌<◌, Bool, true, false, if◌then◌else◌, List, take, drop, Option, Some, None, option_map, position, refl, sym, ap, ◌∙◌, subst, arith}
+use Rattle.std.proofs.Common.{◌≡◌, ◌≢◌, ◌⊎◌, inl, inr, ℕ, zero, suc, ◌+◌, ◌-◌, ◌<◌, Bool, true, false, if◌then◌else◌, List, length, take, drop, Option, Some, None, option_map, position, refl, sym, ap, ◌∙◌, subst, arith}
 use Rattle.std.proofs.lemmas.{Bool.cases_order, List.drop-drop, Option.{none-some, same_Some}}
 use Rattle.ixdtf_buffers.specs.Lines.{is_byte}
 use Rattle.ixdtf_checks.specs.{Columns.{IsNamed, IsColumn, IsMissing, HasNoColumn}, Parts.{field_start, front_field}, declared.column.ColumnError.TheVariants.{Twice}}
+use Rattle.ixdtf_checks.proofs.CsvLemmas.{rest_of}
 
 -- Of the first `count` fields, this is the only one that has the name. If it is `None`, none of them has the name.
 abbrev pub Seen : ℕ → List ℕ → List ℕ → ℕ → Option ℕ → Type 0
@@ -146,11 +147,50 @@ front_whole separator line none = rw none refl
 
 -- ---- what is returned
 
-pub is_column : (separator before start : ℕ) (name line : List ℕ) (column : ℕ) → field_start separator before line ≡ Some start
-    → position (is_byte separator) (drop start line) ≡ None → Seen separator name line (suc before) (Some column) → IsColumn separator name line column
-is_column separator before start name line column is none (less, named, only) =
+-- This field of the line is the only one that has the name. If it is `None`, no field has the name.
+abbrev pub IsOnly : ℕ → List ℕ → List ℕ → Option ℕ → Type 0
+IsOnly separator name line None = IsMissing separator name line
+IsOnly separator name line (Some column) = IsColumn separator name line column
+
+-- All fields of the line were seen.
+only_named : (separator before start : ℕ) (name line : List ℕ) (kept : Option ℕ) → field_start separator before line ≡ Some start
+    → position (is_byte separator) (drop start line) ≡ None → Seen separator name line (suc before) kept → IsOnly separator name line kept
+only_named separator before start name line None is none seen =
+    λ other named. seen other (named_before separator before start name line other is none named) named
+only_named separator before start name line (Some column) is none (less, named, only) =
     record { named = named; only = λ other other_named. only other (named_before separator before start name line other is none other_named) other_named }
 
-pub is_missing : (separator before start : ℕ) (name line : List ℕ) → field_start separator before line ≡ Some start
-    → position (is_byte separator) (drop start line) ≡ None → Seen separator name line (suc before) None → IsMissing separator name line
-is_missing separator before start name line is none seen = λ other named. seen other (named_before separator before start name line other is none named) named
+-- ---- the field that the code looks at
+
+-- The first separator of the slice is the first separator of the rest of the line.
+pub place_in_rest : (separator start : ℕ) (line : List ℕ) {place : Option ℕ} → place ≡ position (is_byte separator) (take (length line - start) (drop start line))
+    → position (is_byte separator) (drop start line) ≡ place
+place_in_rest separator start line is = sym (rw (rest_of start line) at is)
+
+-- The field begins at `start`, after `before` other fields. `found` says which of these has the name. The code has the rest of the line as a
+-- slice.
+module _ (separator : ℕ) (name line : List ℕ) (before start : ℕ) (found : Option ℕ) (starts : field_start separator before line ≡ Some start)
+    (seen : Seen separator name line before found) (field : List ℕ) (is : field ≡ front_field separator (take (length line - start) (drop start line))) where
+  -- The rest of the line begins with the field.
+  field_in_rest : front_field separator (drop start line) ≡ field
+  field_in_rest = sym (rw (rest_of start line) at is)
+
+  -- `kept` says which field up to this one has the name.
+  pub seen_here : (is_named : Bool) (kept : Option ℕ) → (is_named ≡ true → field ≡ name) → (is_named ≡ false → field ≢ name)
+      → kept ≡ (if is_named then Some before else found) → (is_named ≡ true → found ≡ None) → Seen separator name line (suc before) kept
+  seen_here is_named kept same other keeps none =
+      seen_more separator name line before is_named found kept seen
+      (λ told. named_here separator before start name line field starts field_in_rest (same told))
+      (λ told. λ named. other told (named_here_only separator before start name line field starts field_in_rest named))
+      keeps none
+
+  -- This field and a field before it have the name.
+  pub twice_here : field ≡ name → found ≢ None → HasNoColumn Twice separator name line
+  twice_here same some = seen_twice separator name line before found some seen (named_here separator before start name line field starts field_in_rest same)
+
+  -- This is the last field, so it is known which field of the line has the name.
+  pub last_here : None ≡ position (is_byte separator) (take (length line - start) (drop start line)) → (is_named : Bool) (kept : Option ℕ)
+      → (is_named ≡ true → field ≡ name) → (is_named ≡ false → field ≢ name) → kept ≡ (if is_named then Some before else found)
+      → (is_named ≡ true → found ≡ None) → IsOnly separator name line kept
+  last_here last is_named kept same other keeps none = only_named separator before start name line kept starts (place_in_rest separator start line last)
+      (seen_here is_named kept same other keeps none)

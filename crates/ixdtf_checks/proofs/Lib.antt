@@ -1,3 +1,4 @@
+pub mod CanonicalLemmas
 pub mod CharactersLemmas
 pub mod ColouredLemmas
 pub mod ColumnLemmas

@@ -10,7 +10,7 @@ use lib.Utf8.{encode}
 use Rattle.ixdtf_grammar.specs.LocatedTexts.{shown, column_of, cut_mark, indent_of, marks_of, pointed_text}
 use Rattle.ixdtf_buffers.specs.{Adding.Adds, Lines.newline}
 use Rattle.ixdtf_checks.specs.{declared.pointed.Window.Window, Pointed.{Fits, IsNear, IsWindow, mark_of, bytes_in, masked, window_lines}, Seen.lines_at}
-use Rattle.ixdtf_checks.proofs.{CharactersLemmas.{column_at, column_beyond}, MaskedLemmas.{masked_shown}}
+use Rattle.ixdtf_checks.proofs.{CharactersLemmas.{column_at, column_beyond}, CsvLemmas.rest_of, MaskedLemmas.{masked_shown}}
 
 ascii_cut : (is_cut : Bool) → IsAscii (cut_mark is_cut)
 ascii_cut true = IsAscii-cons 46 (46 ∷ []) (omega arith) (IsAscii-cons 46 [] (omega arith) IsAscii-nil)
@@ -214,6 +214,45 @@ module _ (bs : List ℕ) (at : ℕ) (w : Window) (m s n : ℕ) (marked : m ≤ l
         indent_cut = λ some. cut (omega (arith, some, start));
         indent_whole = λ none. whole (omega (arith, none, start));
       })
+
+-- The code chose a window: the mark is at m, the window begins at s, and it ends n bytes after the mark. `count` characters are before the
+-- mark. The code has the bytes from the mark on as a slice.
+module _ (bs : List ℕ) (m s n count indent : ℕ) (marked : m ≤ length bs) (before : s ≤ length (take m bs)) (good_b : IsUtf8 (drop s (take m bs)))
+    (counted : length (chars (drop s (take m bs))) ≡ count) (few_before : count ≤ 48) (behind : n ≤ length (take (length bs - m) (drop m bs)))
+    (good_c : IsUtf8 (take n (take (length bs - m) (drop m bs)))) (few_behind : length (chars (take n (take (length bs - m) (drop m bs)))) ≤ 24)
+    (cut : 0 < s → indent ≡ 50) (whole : s ≡ 0 → indent ≡ count) where
+  -- The window begins at or before the mark.
+  start_before_mark : s ≤ m
+  start_before_mark = omega (arith, before, length-take-le m bs marked)
+
+  -- The window ends in the text.
+  end_in_text : m + n ≤ length bs
+  end_in_text = omega (arith, rw (rest_of m bs) at behind, length-drop m bs, marked)
+
+  -- The window has few bytes, and few columns are before the mark.
+  pub chosen_fits : Fits bs (record { start = s; end = m + n; indent = indent })
+  chosen_fits =
+      let few_b = bytes_few (drop s (take m bs)) good_b in
+      let few_c = bytes_few (take n (drop m bs)) (rw (rest_of m bs) at good_c) in
+      let long_b = length-drop s (take m bs) in
+      let long_c : length (take n (drop m bs)) ≡ n = length-take-le n (drop m bs) (rw (rest_of m bs) at behind) in
+      let narrow : indent ≤ 50 = ⊎_elim (λ some. omega (arith, cut some)) (λ none. omega (arith, whole (omega (arith, none)), few_before)) (cases_lt 0 s) in
+      record {
+        order = omega (arith, start_before_mark);
+        within = end_in_text;
+        few = omega (arith, start_before_mark, length-take-le m bs marked, long_b, long_c, few_b, few_c, counted, few_before, rw (rest_of m bs) at few_behind);
+        narrow = narrow;
+      }
+
+  -- If the parts of the text are cut between characters, the window has the characters that are shown.
+  pub chosen_shown : (at : ℕ) → IsUtf8 (take s (take m bs)) → IsUtf8 (drop n (take (length bs - m) (drop m bs))) → column_of (chars bs) at ≡ length (chars (take m bs))
+      → (0 < s → count ≡ 48) → (n < length (take (length bs - m) (drop m bs)) → length (chars (take n (take (length bs - m) (drop m bs)))) ≡ 24)
+      → IsWindow bs at (record { start = s; end = m + n; indent = indent })
+  chosen_shown at good_a good_d column cut_before cut_behind =
+      let ends : n < length (drop m bs) → length (chars (take n (drop m bs))) ≡ 24 = rw (rest_of m bs) at cut_behind in
+      window_from bs at _ m s n marked start_before_mark end_in_text good_a good_b (rw (rest_of m bs) at good_c) (rw (rest_of m bs) at good_d) column
+      (omega (arith, counted, few_before)) (λ some. omega (arith, counted, cut_before some)) (rw (rest_of m bs) at few_behind)
+      (λ more. ends (omega (arith, more, length-drop m bs))) refl refl cut (λ none. omega (arith, whole none, counted))
 
 -- ---- the greatest byte
 

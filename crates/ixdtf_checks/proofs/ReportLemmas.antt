@@ -1,5 +1,5 @@
 -- Proves that a run over lines writes the reports of the lines.
-use Rattle.std.proofs.Common.{◌≡◌, refl, true, false, ℕ, ◌+◌, ◌≤◌, ◌<◌, ◌^◌, List, [], ◌∷◌, ◌++◌, length, Option, None, Result, Ok, Err, OnOk, ap, subst, sym, ◌∙◌, arith}
+use Rattle.std.proofs.Common.{◌≡◌, refl, true, false, if◌then◌else◌, ℕ, ◌+◌, ◌-◌, min, ◌≤◌, ◌<◌, ◌^◌, List, [], ◌∷◌, ◌++◌, length, Option, None, Result, Ok, Err, OnOk, ap, subst, sym, ◌∙◌, arith}
 use Rattle.std.specs.Io.KnownBytes.{Appends}
 use Rattle.std.proofs.Common.{length-append}
 use Rattle.std.specs.{Prelude.{◌==◌, ◌||◌, nat_lt, Bool}, Bool.MatchBool}
@@ -10,7 +10,7 @@ use Rattle.ixdtf_buffers.proofs.LinesLemmas.{lines_most}
 use Rattle.ixdtf_checks.specs.{Texts.text_of, declared.{request.{Request.Request, Format.TheVariants.{Text}}, tally.Tally.Tally, checking.Checking.Checking}, Checks.{Counts, Reports, ReportsFront, ReportsLine}, Second.AddsReports}
 use Rattle.ixdtf_checks.proofs.SecondLemmas.{AddsReports-nil, AddsReports-trans, IsWritten-nil, failed_of, front-written, whole-of}
 use Rattle.ixdtf_instants.specs.declared.instant.Instant.{Instant}
-use Rattle.ixdtf_checks.specs.{Order.latest, Reports.{AreReports, AreVerdicts, IsFirst, IsHintIn, IsRefusalReport, IsReport, IsSecond, has_hint, instant_in, last_instant, refusal_count, refusal_of, refusals_of}}
+use Rattle.ixdtf_checks.specs.{Order.latest, Reports.{AreReports, AreVerdicts, IsFirst, IsHintIn, IsRefusalReport, IsReport, IsSecond, goes_to_second, has_hint, instant_in, last_instant, refusal_count, refusal_of, refusals_of}}
 use Rattle.ixdtf_checks.specs.Verdicts.{Cause, IsHintAbout, Refusal, Tells, Verdict, IsVerdict, Verdict.{accepted, printed, skipped, refused}}
 
 -- A line counts as at most one refused line.
@@ -60,6 +60,32 @@ pub unhinted : (number : ℕ) (cause : Cause) (refusal : Refusal) → Tells caus
     → IsRefusalReport Text [] number false cause (text_of [] number refusal.column refusal.message refusal.lines)
 unhinted number cause refusal tells =
     (refusal, None, tells, refl, ap (λ (lines : List ℕ). text_of [] number refusal.column refusal.message lines) (sym (append-nil refusal.lines)))
+
+-- The line has this verdict and this report, and it was counted. The report goes to one of the outputs, and nothing goes to the other one.
+pub line_reported : {request : Request} {old new : Tally} {last next : Option Instant} {line : List ℕ} (verdict : Verdict) (report : List ℕ) (second : Bool)
+    → goes_to_second request.task verdict ≡ second → IsReport request new.lines new.refused verdict report
+    → IsVerdict request (old.lines == 0) last line verdict → next ≡ latest (instant_in verdict) last
+    → new.lines ≡ min (old.lines + 1) (2 ^ 64 - 1) → new.refused ≡ min (old.refused + refusal_count verdict) (2 ^ 64 - 1)
+    → ReportsLine request old new last next line (if second then [] else report) (if second then report else [])
+line_reported {request = request} {new = new} verdict report second goes reports is instant lines refusals = record {
+  verdict = verdict;
+  is = is;
+  instant = instant;
+  lines = lines;
+  refused = refusals;
+  first_is = in_first second goes;
+  second_is = in_second second goes;
+}
+  where
+    -- These bytes go to the first output.
+    in_first : (test : Bool) → goes_to_second request.task verdict ≡ test → IsFirst request new.lines new.refused verdict (if test then [] else report)
+    in_first true goes = rw goes refl
+    in_first false goes = rw goes reports
+
+    -- These bytes go to the second output.
+    in_second : (test : Bool) → goes_to_second request.task verdict ≡ test → IsSecond request new.lines new.refused verdict (if test then report else [])
+    in_second true goes = rw goes reports
+    in_second false goes = rw goes refl
 
 -- The report of a line and the reports of the lines after it are those of all these lines. `Is` says what the report of one line is, for a
 -- request.

@@ -11,7 +11,7 @@ use Rattle.ixdtf_grammar.specs.language.Readers.Reader.{bracketed, parse_rfc3339
 use Rattle.ixdtf_grammar.specs.table.{Faults.{Fault, fault_of_located}}
 use Rattle.ixdtf_instants.specs.declared.instant.Instant.{Instant}
 use Rattle.ixdtf_checks.specs.{Errors.HasError, Seen.lines_at, Kinds.{has_offset, reader_of}, Parts.{Text as Part, line_in}, Refusals.IsRefusal}
-use Rattle.ixdtf_checks.specs.{Verdicts.{Verdict, ShowsPart, IsOrderVerdict, IsShortVerdict, IsTextVerdict, IsVerdict, Verdict.{accepted, printed, skipped, refused}}, declared.kind.Kind.Kind}
+use Rattle.ixdtf_checks.specs.{Verdicts.{Cause, Verdict, ShowsPart, IsOrderVerdict, IsShortVerdict, IsTextVerdict, IsUnread, IsVerdict, Verdict.{accepted, printed, skipped, refused}}, declared.kind.Kind.Kind}
 use Rattle.ixdtf_checks.specs.declared.request.{Request.Request, Task.TheVariants.{Check, Print}}
 
 -- The position of an error is at most the length of the text.
@@ -39,30 +39,31 @@ shows_part bytes part = go (is_utf8 bytes) refl
     go true is = inl (IsUtf8-from_is_utf8 bytes is, refl)
     go false is = inr ((λ good. true≢false (sym (is_utf8-from_IsUtf8 bytes good) ∙ is)), refl)
 
+-- If a reader refuses a text, the verdict has a cause and no instant.
+refused_for : (with_offset : Bool) (reader : Reader) (text : Part) (verdict : Verdict) → IsRefusal with_offset reader text verdict
+    → (cause : Cause) × (verdict ≡ refused None cause) × IsUnread with_offset reader text cause
+refused_for with_offset reader text (accepted instant) none = absurd none
+refused_for with_offset reader text (printed canonical) none = absurd none
+refused_for with_offset reader text skipped none = absurd none
+refused_for with_offset reader text (refused None cause) is = (cause, refl, is)
+refused_for with_offset reader text (refused (Some instant) cause) none = absurd none
+
 -- If the reader refuses the text, this is the verdict of a check.
 pub check_refused : (kind : Kind) (profile : Profile) (last : Option Instant) (text : Part) (verdict : Verdict)
     → IsRefusal (has_offset kind) (reader_of kind profile) text verdict → IsTextVerdict (Check kind) profile last text verdict
-check_refused kind profile last text (accepted instant) none = absurd none
-check_refused kind profile last text (printed canonical) none = absurd none
-check_refused kind profile last text skipped none = absurd none
-check_refused kind profile last text (refused None cause) is = is
-check_refused kind profile last text (refused (Some instant) cause) none = absurd none
+check_refused kind profile last text verdict is =
+    let (cause, same, unread) = refused_for (has_offset kind) (reader_of kind profile) text verdict is in rw same unread
 
+-- If the reader refuses the text, this is the verdict when the canonical text is asked for.
 pub print_refused : (kind : Kind) (profile : Profile) (last : Option Instant) (text : Part) (verdict : Verdict)
     → IsRefusal (has_offset kind) (reader_of kind profile) text verdict → IsTextVerdict (Print kind) profile last text verdict
-print_refused kind profile last text (accepted instant) none = absurd none
-print_refused kind profile last text (printed canonical) none = absurd none
-print_refused kind profile last text skipped none = absurd none
-print_refused kind profile last text (refused None cause) is = is
-print_refused kind profile last text (refused (Some instant) cause) none = absurd none
+print_refused kind profile last text verdict is =
+    let (cause, same, unread) = refused_for (has_offset kind) (reader_of kind profile) text verdict is in rw same unread
 
+-- If the reader refuses the text, this is the verdict on a text that has to name an instant.
 pub order_refused : (reader : Reader) (last : Option Instant) (text : Part) (verdict : Verdict)
     → IsRefusal true reader text verdict → IsOrderVerdict reader last text verdict
-order_refused reader last text (accepted instant) none = absurd none
-order_refused reader last text (printed canonical) none = absurd none
-order_refused reader last text skipped none = absurd none
-order_refused reader last text (refused None cause) is = inl is
-order_refused reader last text (refused (Some instant) cause) none = absurd none
+order_refused reader last text verdict is = let (cause, same, unread) = refused_for true reader text verdict is in rw same (inl unread)
 
 -- The verdict on a line that is not too long.
 pub short_verdict : (request : Request) (is_first : Bool) (last : Option Instant) (line text : List ℕ) (verdict : Verdict) → length line ≤ 65536 → line ≡ text

@@ -16,11 +16,12 @@ ghost use Rattle.ixdtf_checks.specs.Reports.{instant_in};
 ghost use Rattle.ixdtf_checks.specs.Refusals.{IsRefusal};
 
 use crate::cause::{Cause, Unread, WholeText};
+use crate::csv::Quoting;
 use crate::instants::read_instant;
 use crate::kind::{InstantKind, Kind};
 use crate::part::{Lost, Part, part_of};
 use crate::printed::PrintedText;
-use crate::printing::read_to_print;
+use crate::printing::{print_date_time, read_to_print};
 use crate::reading::{read, read_date_time};
 use crate::request::{Field, Request, Task};
 use crate::skipped::kept_line;
@@ -125,12 +126,30 @@ fn judge_field<'a>(
     ensures kept { (printed : List ℕ) → last.new ≡ latest (instant_in (seen printed verdict.new)) last.old }
 {
     match part_of(field, line, unquoted) {
-        Err(Lost::NoField) => *verdict = Verdict::Refused(Cause::NoField(line.len() + 1)),
-        Err(Lost::Broken(broken)) => {
-            *verdict = Verdict::Refused(Cause::Broken(broken.quoting, broken.at + 1));
-        }
+        Err(Lost::NoField) => refuse_no_field(verdict, line.len() + 1),
+        Err(Lost::Broken(broken)) => refuse_broken(verdict, broken.quoting, broken.at + 1),
         Ok(part) => judge_text(request, last, part, printed, verdict),
     }
+}
+
+/// Writes the verdict on a line that has too few fields. `column` is the column directly after the line.
+///
+/// This function, `refuse_broken` and `judge_print` are inlined, and are functions of their own for this reason: Rattle's compiler
+/// sets the local variables of a function to zero where the code of the function begins. So these variables are not set to zero for
+/// an accepted line of a check.
+#[inline(always)]
+fn refuse_no_field(verdict: &mut Verdict<'_>, column: usize)
+    ensures { verdict.new ≡ Verdict.Refused (Cause.NoField column) }
+{
+    *verdict = Verdict::Refused(Cause::NoField(column));
+}
+
+/// Writes the verdict on a line that is no record of RFC 4180.
+#[inline(always)]
+fn refuse_broken(verdict: &mut Verdict<'_>, quoting: Quoting, column: usize)
+    ensures { verdict.new ≡ Verdict.Refused (Cause.Broken quoting column) }
+{
+    *verdict = Verdict::Refused(Cause::Broken(quoting, column));
 }
 
 /// Writes the verdict on the text of a line.
@@ -150,10 +169,7 @@ fn judge_text<'a>(
 {
     match request.task {
         Task::Check(kind) => judge_check(kind, request.profile, part, verdict),
-        Task::Print(kind) => match read_to_print(kind, request.profile, part.text, printed) {
-            Ok(()) => *verdict = Verdict::Printed,
-            Err(error) => refuse(verdict, kind.has_offset(), error, part),
-        },
+        Task::Print(kind) => judge_print(kind, request.profile, part, printed, verdict),
         Task::Order(kind) => judge_order(kind, last, part, verdict),
     }
 }
@@ -170,21 +186,12 @@ fn judge_check<'a>(kind: Kind, profile: Profile, part: Part<'a>, verdict: &mut V
         → IsTextVerdict (Task.Check kind) profile last (seen_part part.entry) (seen printed verdict.new) }
     ensures instant { (printed : List ℕ) → instant_in (seen printed verdict.new) ≡ None }
 {
-    match kind {
-        Kind::DateTime => match read_date_time(part.text) {
-            Ok(()) => {}
-            Err(error) => refuse(verdict, true, error, part),
-        },
-        Kind::YearMonth
-        | Kind::MonthDay
-        | Kind::Time
-        | Kind::Offset
-        | Kind::Zone
-        | Kind::ZoneName
-        | Kind::Duration
-        | Kind::Rfc3339
-        | Kind::Iana
-        | Kind::Rfc9557 => judge_other_check(kind, profile, part, verdict),
+    if !kind.is_date_time() {
+        return judge_other_check(kind, profile, part, verdict);
+    }
+    match read_date_time(part.text) {
+        Ok(()) => {}
+        Err(error) => refuse(verdict, true, error, part),
     }
 }
 
@@ -203,9 +210,56 @@ fn judge_other_check<'a>(kind: Kind, profile: Profile, part: Part<'a>, verdict: 
     }
 }
 
+/// Writes the verdict on a text that is read as a text of the kind, and prints its canonical text.
+///
+/// Most texts are date-times. The other kinds have a function that is not inlined, as in `judge_check`.
+#[inline(always)]
+fn judge_print<'a>(
+    kind: Kind,
+    profile: Profile,
+    part: Part<'a>,
+    printed: &mut PrintedText,
+    verdict: &mut Verdict<'a>,
+)
+    requires short { part.start + length part.text.now ≤ 65536 }
+    ensures verdict { (last : Option Instant)
+        → IsTextVerdict (Task.Print kind) profile last (seen_part part.entry) (seen printed.new verdict.new) }
+    ensures instant { (printed : List ℕ) → instant_in (seen printed verdict.new) ≡ None }
+{
+    if !kind.is_date_time() {
+        return judge_other_print(kind, profile, part, printed, verdict);
+    }
+    match print_date_time(part.text, printed) {
+        Ok(()) => *verdict = Verdict::Printed,
+        Err(error) => refuse(verdict, true, error, part),
+    }
+}
+
+/// Does the work of `judge_print`. The function accepts every kind, but `judge_print` does not call it for date-times.
+#[inline(never)]
+fn judge_other_print<'a>(
+    kind: Kind,
+    profile: Profile,
+    part: Part<'a>,
+    printed: &mut PrintedText,
+    verdict: &mut Verdict<'a>,
+)
+    requires short { part.start + length part.text.now ≤ 65536 }
+    ensures verdict { (last : Option Instant)
+        → IsTextVerdict (Task.Print kind) profile last (seen_part part.entry) (seen printed.new verdict.new) }
+    ensures instant { (printed : List ℕ) → instant_in (seen printed verdict.new) ≡ None }
+{
+    match read_to_print(kind, profile, part.text, printed) {
+        Ok(()) => *verdict = Verdict::Printed,
+        Err(error) => refuse(verdict, kind.has_offset(), error, part),
+    }
+}
+
 /// Writes the verdict on a text that has to name an instant. This instant must not be before `last`. `last` becomes this instant,
 /// also if it is before the old one.
-#[inline(never)]
+///
+/// The function is inlined, and `judge_instant` is not. So the part is copied for `judge_instant` only if the task is `Task::Order`.
+#[inline(always)]
 fn judge_order<'a>(
     kind: InstantKind,
     last: &mut Option<Instant>,
@@ -222,6 +276,7 @@ fn judge_order<'a>(
 }
 
 /// Writes the verdict on a text that has to name an instant. This instant must not be before `last`.
+#[inline(never)]
 fn judge_instant<'a>(
     kind: InstantKind,
     last: Option<Instant>,

@@ -1,5 +1,5 @@
 //! The kinds of texts.
-ghost use Rattle.std.specs.Prelude.{◌≡◌};
+ghost use Rattle.std.specs.Prelude.{◌≡◌, ◌≢◌, true, false};
 ghost use Rattle.ixdtf_checks.specs.Kinds.{IsNamed, has_offset, instant_kind};
 
 /// The kind of a text. It decides which reader reads the text.
@@ -59,6 +59,15 @@ impl Kind {
         } else {
             None
         }
+    }
+
+    /// Returns whether the kind is `Kind::DateTime`. Most texts are of this kind.
+    #[inline(always)]
+    pub fn is_date_time(self) -> bool
+        ensures yes { result ≡ true → self ≡ Kind.DateTime }
+        ensures no { result ≡ false → self ≢ Kind.DateTime }
+    {
+        self == Kind::DateTime
     }
 
     /// Returns whether a text of the kind can have a time, and an offset after it.

@@ -59,6 +59,12 @@ impl Kind {
         }
     }
 
+    /// Returns whether the kind is `Kind::DateTime`. Most texts are of this kind.
+    #[inline(always)]
+    pub fn is_date_time(self) -> bool {
+        self == Kind::DateTime
+    }
+
     /// Returns whether a text of the kind can have a time, and an offset after it.
     pub fn has_offset(self) -> bool {
         match self {

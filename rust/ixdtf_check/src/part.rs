@@ -71,9 +71,9 @@ pub fn without_return(line: &[u8]) -> &[u8] {
 /// to a record of RFC 4180 and is in quotes, the text begins after the opening quote. Returns an error if the line is refused
 /// before its text is read.
 ///
-/// `plain_fields` and `csv_field` are not inlined, so their results are in memory. `part_of` takes the `Part` or the `Lost` out of
-/// such a result, and makes a new `Result` from it. So the result of `part_of` can be in registers. A single field (`Extent::One`) is
-/// found by `plain_field`, which is inlined. So its result is not written to memory.
+/// `plain_fields` and `csv_field` are not inlined, so their results are in memory. The functions that call them take the `Part` or the
+/// `Lost` out of such a result, and make a new `Result` from it. So the result of `part_of` can be in registers. A single field
+/// (`Extent::One`) is found by `plain_field`, which is inlined. So its result is not written to memory.
 #[inline(always)]
 pub fn part_of<'a>(
     field: Field,
@@ -82,14 +82,41 @@ pub fn part_of<'a>(
 ) -> Result<Part<'a>, Lost> {
     match field.extent {
         Extent::One => plain_field(field.separator, field.before, line),
-        Extent::More(more) => match plain_fields(field.separator, field.before, more, line) {
-            Ok(part) => Ok(part),
-            Err(lost) => Err(lost),
-        },
-        Extent::Csv => match csv_field(field.separator, field.before, line, unquoted) {
-            Ok(part) => Ok(part),
-            Err(lost) => Err(lost),
-        },
+        Extent::More(more) => call_plain_fields(field.separator, field.before, more, line),
+        Extent::Csv => call_csv_field(field.separator, field.before, line, unquoted),
+    }
+}
+
+/// Calls `plain_fields`, and makes a new `Result` from its result.
+///
+/// This function and `call_csv_field` are inlined, and are functions of their own for this reason: Rattle's compiler sets the result
+/// of the called function to zero where their code begins. So this is not done for a line of which a single field is read.
+#[allow(clippy::needless_match)]
+#[inline(always)]
+fn call_plain_fields(
+    separator: u8,
+    before: usize,
+    more: usize,
+    line: &[u8],
+) -> Result<Part<'_>, Lost> {
+    match plain_fields(separator, before, more, line) {
+        Ok(part) => Ok(part),
+        Err(lost) => Err(lost),
+    }
+}
+
+/// Calls `csv_field`, and makes a new `Result` from its result.
+#[allow(clippy::needless_match)]
+#[inline(always)]
+fn call_csv_field<'a>(
+    separator: u8,
+    before: usize,
+    line: &'a [u8],
+    unquoted: &'a mut [u8; LINE_LIMIT],
+) -> Result<Part<'a>, Lost> {
+    match csv_field(separator, before, line, unquoted) {
+        Ok(part) => Ok(part),
+        Err(lost) => Err(lost),
     }
 }
 

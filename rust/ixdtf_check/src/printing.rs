@@ -11,34 +11,7 @@ use ixdtf::records::TimeZoneRecord;
 
 /// Reads the text as a text of the kind, and prints its canonical text to `printed`. Returns the error with its position, if the
 /// text is refused.
-///
-/// The function for the kind `date-time` is inlined, because most texts are of this kind. The function for the other kinds is not inlined.
-#[inline(always)]
 pub fn read_to_print(
-    kind: Kind,
-    profile: Profile,
-    text: &[u8],
-    printed: &mut PrintedText,
-) -> Result<(), LocatedError> {
-    match kind {
-        Kind::DateTime => print_date_time(text, printed),
-        Kind::YearMonth
-        | Kind::MonthDay
-        | Kind::Time
-        | Kind::Offset
-        | Kind::Zone
-        | Kind::ZoneName
-        | Kind::Duration
-        | Kind::Rfc3339
-        | Kind::Iana
-        | Kind::Rfc9557 => read_other_to_print(kind, profile, text, printed),
-    }
-}
-
-/// Reads the text as a text of the kind, and prints its canonical text. The function accepts every kind, but `read_to_print`
-/// does not call it for date-times.
-#[inline(never)]
-fn read_other_to_print(
     kind: Kind,
     profile: Profile,
     text: &[u8],
@@ -59,9 +32,9 @@ fn read_other_to_print(
     }
 }
 
-/// Reads the text by `parse`, and prints its canonical text.
+/// Reads the text by `parse`, and prints its canonical text. Returns the error with its position, if the text is refused.
 #[inline(always)]
-fn print_date_time(text: &[u8], printed: &mut PrintedText) -> Result<(), LocatedError> {
+pub fn print_date_time(text: &[u8], printed: &mut PrintedText) -> Result<(), LocatedError> {
     match IxdtfParser::from_utf8(text).parse_located() {
         Ok(parts) => {
             printed.print(&parts);

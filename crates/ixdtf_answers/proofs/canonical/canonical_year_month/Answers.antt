@@ -1,17 +1,14 @@
 -- Proves the case of an accepted text, and the case of a refused text.
 use Rattle.ixdtf_answers.proofs.canonical.canonical_year_month.Goals as goal
 use Rattle.std.proofs.Common.{refl, arith}
-use Rattle.ixdtf.specs.language.Languages.Found.{parsed}
-use Rattle.ixdtf_print.{specs.{YearMonths.year_month_text, Printable.record_of}, proofs.theorems.PrintableYearMonths.year_month_fits}
-use Rattle.ixdtf_answers.specs.{Answer.letters, declared.word.Word.TheVariants.CanonicalYearMonth}
-use Rattle.ixdtf_answers.proofs.PrintedLemmas.{is_printed}
+use Rattle.ixdtf_print.{specs.YearMonths.year_month_text, proofs.theorems.PrintableYearMonths.year_month_fits}
+use Rattle.ixdtf_answers.specs.declared.word.Word.TheVariants.{CanonicalYearMonth}
+use Rattle.ixdtf_answers.proofs.{PartsLemmas.record_returned, PrintedLemmas.record_printed}
 
 pub returns-in-Ok : goal.returns-in-Ok
 returns-in-Ok c =
-    let found = record_of c.in-Ok.record in
-    let given = rw c.from_utf8.ensures.rest at ((c.parse_year_month-read.ensures.reads.ok found).0 (rw c.in-Ok.is refl)) in
-    is_printed CanonicalYearMonth c.args.text.now (parsed found) (year_month_text found) given refl (omega (arith, year_month_fits (letters c.args.text.now) found given)) c.requires (omega (arith, c.told-room))
-    (letters c.args.text.now, given) c.print_year_month.ensures.prints c.count_of.ensures
+    record_printed CanonicalYearMonth c.args.text.now year_month_text 4 refl c.from_utf8.ensures.rest (rw c.in-Ok.is at c.parse_year_month-read.ensures.reads) year_month_fits (omega arith) refl
+    c.requires (omega (arith, c.told-room)) c.print_year_month.ensures.prints c.count_of.ensures
 
 pub returns-in-Err : goal.returns-in-Err
-returns-in-Err c = record { ok = tt; err = rw c.from_utf8.ensures.rest at (rw c.in-Err.is at c.parse_year_month-read.ensures.reads.err) }
+returns-in-Err c = record { ok = tt; err = (record_returned CanonicalYearMonth _ c.args.text.now _ refl c.from_utf8.ensures.rest (rw c.in-Err.is at c.parse_year_month-read.ensures.reads)).err }

@@ -8,11 +8,7 @@ use Rattle.ixdtf_c.proofs.Added.{adds_as, adds_then}
 -- A text has at most as many characters as bytes, and it has fewer than 2 ^ 63 bytes.
 pub overflow_add-last : goal.overflow_add-last
 overflow_add-last c =
-    let room = c.well_formed.1.0.1 in
-    let fewer = length-le-encodes (chars c.args.text.now) in
-    let bytes = ap length (encodes-chars c.args.text.now c.utf8.text) in
-    let within = c.requires in
-    omega arith
+    omega (arith, c.requires, c.well_formed.1.0.1, length-le-encodes (chars c.args.text.now), ap length (encodes-chars c.args.text.now c.utf8.text))
 
 pub returns : goal.returns
 returns c =

@@ -2,24 +2,16 @@ use Rattle.ixdtf_c.proofs.printers.ixdtf_print.Goals as goal
 use Rattle.std.proofs.Common.{◌≡◌, ◌≤◌, ◌<◌, ◌^◌, ◌-◌, length, map, min, take}
 use Rattle.ixdtf.specs.language.Letters.{byte_letter}
 use Rattle.ixdtf_c.specs.{Narrow.contents, Standing.record_by}
-use Rattle.ixdtf_c.proofs.Printed.{both_some, some_both, text_some}
+use Rattle.ixdtf_c.proofs.Printed.{told_some, text_some}
 use Rattle.ixdtf_print.specs.{Canonical.canonical_text, Printable.IsPrintable}
 
 pub returns-clause-printed : goal.returns-clause-printed
-returns-clause-printed c = (
-  λ zero. both_some canonical_text (λ text. length text ≤ length c.args.out.now) IsPrintable (record_by (contents c.args.given.now))
-      (c.print_into.ensures.prints.printed.0 zero),
-  λ is. c.print_into.ensures.prints.printed.1
-      (some_both canonical_text (λ text. length text ≤ length c.args.out.now) IsPrintable (record_by (contents c.args.given.now)) is),
-)
+returns-clause-printed c = told_some canonical_text (λ text. length text ≤ length c.args.out.now) IsPrintable (record_by (contents c.args.given.now))
+    c.print_into.ensures.prints.printed
 
 pub returns-clause-too_short : goal.returns-clause-too_short
-returns-clause-too_short c = (
-  λ told. both_some canonical_text (λ text. length c.args.out.now < length text) IsPrintable (record_by (contents c.args.given.now))
-      (c.print_into.ensures.prints.too_short.0 told),
-  λ is. c.print_into.ensures.prints.too_short.1
-      (some_both canonical_text (λ text. length c.args.out.now < length text) IsPrintable (record_by (contents c.args.given.now)) is),
-)
+returns-clause-too_short c = told_some canonical_text (λ text. length c.args.out.now < length text) IsPrintable (record_by (contents c.args.given.now))
+    c.print_into.ensures.prints.too_short
 
 pub returns-clause-count : goal.returns-clause-count
 returns-clause-count c = λ zero. text_some canonical_text (λ text. c.print_into.new.count ≡ length text) IsPrintable (record_by (contents c.args.given.now))

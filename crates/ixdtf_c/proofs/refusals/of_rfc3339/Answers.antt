@@ -1,15 +1,8 @@
 use Rattle.ixdtf_c.proofs.refusals.of_rfc3339.Goals as goal
-use Rattle.std.proofs.lemmas.Simd.{map-map}
-use Rattle.ixdtf.specs.language.Readers.Reader.{parse_rfc3339}
-use Rattle.ixdtf_c.specs.Asked.Asked.{unhandled}
-use Rattle.ixdtf_c.proofs.Refused.{part_ok, part_err}
+use Rattle.ixdtf_c.proofs.Refused.{of_units, itself, part_ok, part_err}
 
 pub returns-in-Ok : goal.returns-in-Ok
-returns-in-Ok g c = rw (← (map-map g.T.EncodingType.letter g.T.EncodingType.number c.args.text.now), ← c.new.ensures.rest)
-    (part_ok _ _ _ parse_rfc3339 (unhandled parse_rfc3339) _ _ (λ reads. reads) (λ reads. reads) (λ fault at reason has. has) (λ fault at reason has. has)
-    c.in-Ok.is c.parse_rfc3339_located.ensures.reads)
+returns-in-Ok g c = of_units _ _ _ c.new.ensures.rest (part_ok c.parse_rfc3339_located.ensures.reads itself (λ fault at reason. itself) c.in-Ok.is)
 
 pub returns-in-Err : goal.returns-in-Err
-returns-in-Err g c = rw (← (map-map g.T.EncodingType.letter g.T.EncodingType.number c.args.text.now), ← c.new.ensures.rest)
-    (part_err _ _ _ parse_rfc3339 (unhandled parse_rfc3339) _ _ (λ reads. reads) (λ reads. reads) (λ fault at reason has. has) (λ fault at reason has. has)
-    c.in-Err.is c.parse_rfc3339_located.ensures.reads)
+returns-in-Err g c = of_units _ _ _ c.new.ensures.rest (part_err c.parse_rfc3339_located.ensures.reads itself (λ fault at reason. itself) c.in-Err.is)

@@ -1,6 +1,6 @@
 -- Proves that the members are written, one after the other.
 use Rattle.ixdtf_checks.proofs.json.put_members.Goals as goal
-use Rattle.ixdtf_checks.proofs.JsonLemmas.{Puts-same, object-line}
+use Rattle.ixdtf_checks.proofs.JsonLemmas.{Puts-same, object-line, object_put}
 use Rattle.std.specs.Prelude.{option_map}
 use Rattle.ixdtf_grammar.specs.Messages.{message_text}
 use Rattle.ixdtf_checks.specs.Seen.{seen_refusal}
@@ -26,37 +26,24 @@ returns-in_err-put_member-2 g c =
 
 pub returns-in_err-put : goal.returns-in_err-put
 returns-in_err-put g c =
-    Puts-same (object-line c.args.name.now c.args.number (seen_refusal c.args.refusal.now) (option_map message_text c.args.hint))
-    (Puts-after (rw c.as_bytes.ensures.value at c.in_ok-put_member.ensures)
-    (Puts-after c.in_ok-put_place.ensures
-    (Puts-after (rw (c.as_bytes-2.ensures.value, c.name_of.ensures) at c.in_ok-put_member-2.ensures)
-    (Puts-exit _ c.in_err-put.ensures c.from_residual-in_err-put.ensures.1))))
+    object_put c.args.name.now c.args.number (seen_refusal c.args.refusal.now) (option_map message_text c.args.hint) (rw c.as_bytes.ensures.value at c.in_ok-put_member.ensures)
+    c.in_ok-put_place.ensures (rw (c.as_bytes-2.ensures.value, c.name_of.ensures) at c.in_ok-put_member-2.ensures)
+    (Puts-exit _ c.in_err-put.ensures c.from_residual-in_err-put.ensures.1)
 
 pub returns-in_err-put_message : goal.returns-in_err-put_message
 returns-in_err-put_message g c =
-    Puts-same (object-line c.args.name.now c.args.number (seen_refusal c.args.refusal.now) (option_map message_text c.args.hint))
-    (Puts-after (rw c.as_bytes.ensures.value at c.in_ok-put_member.ensures)
-    (Puts-after c.in_ok-put_place.ensures
-    (Puts-after (rw (c.as_bytes-2.ensures.value, c.name_of.ensures) at c.in_ok-put_member-2.ensures)
-    (Puts-after c.in_ok-put.ensures
-    (Puts-exit _ c.in_err-put_message.ensures c.from_residual-in_err-put_message.ensures.1)))))
+    object_put c.args.name.now c.args.number (seen_refusal c.args.refusal.now) (option_map message_text c.args.hint) (rw c.as_bytes.ensures.value at c.in_ok-put_member.ensures)
+    c.in_ok-put_place.ensures (rw (c.as_bytes-2.ensures.value, c.name_of.ensures) at c.in_ok-put_member-2.ensures)
+    (Puts-after c.in_ok-put.ensures (Puts-exit _ c.in_err-put_message.ensures c.from_residual-in_err-put_message.ensures.1))
 
 pub returns-in_err-put_hint : goal.returns-in_err-put_hint
 returns-in_err-put_hint g c =
-    Puts-same (object-line c.args.name.now c.args.number (seen_refusal c.args.refusal.now) (option_map message_text c.args.hint))
-    (Puts-after (rw c.as_bytes.ensures.value at c.in_ok-put_member.ensures)
-    (Puts-after c.in_ok-put_place.ensures
-    (Puts-after (rw (c.as_bytes-2.ensures.value, c.name_of.ensures) at c.in_ok-put_member-2.ensures)
-    (Puts-after c.in_ok-put.ensures
-    (Puts-after c.in_ok-put_message.ensures
-    (Puts-exit _ c.in_err-put_hint.ensures c.from_residual-in_err-put_hint.ensures.1))))))
+    object_put c.args.name.now c.args.number (seen_refusal c.args.refusal.now) (option_map message_text c.args.hint) (rw c.as_bytes.ensures.value at c.in_ok-put_member.ensures)
+    c.in_ok-put_place.ensures (rw (c.as_bytes-2.ensures.value, c.name_of.ensures) at c.in_ok-put_member-2.ensures)
+    (Puts-after c.in_ok-put.ensures (Puts-after c.in_ok-put_message.ensures (Puts-exit _ c.in_err-put_hint.ensures c.from_residual-in_err-put_hint.ensures.1)))
 
 pub returns : goal.returns
 returns g c =
-    Puts-same (object-line c.args.name.now c.args.number (seen_refusal c.args.refusal.now) (option_map message_text c.args.hint))
-    (Puts-after (rw c.as_bytes.ensures.value at c.in_ok-put_member.ensures)
-    (Puts-after c.in_ok-put_place.ensures
-    (Puts-after (rw (c.as_bytes-2.ensures.value, c.name_of.ensures) at c.in_ok-put_member-2.ensures)
-    (Puts-after c.in_ok-put.ensures
-    (Puts-after c.in_ok-put_message.ensures
-    (Puts-after c.in_ok-put_hint.ensures c.put-2.ensures))))))
+    object_put c.args.name.now c.args.number (seen_refusal c.args.refusal.now) (option_map message_text c.args.hint) (rw c.as_bytes.ensures.value at c.in_ok-put_member.ensures)
+    c.in_ok-put_place.ensures (rw (c.as_bytes-2.ensures.value, c.name_of.ensures) at c.in_ok-put_member-2.ensures)
+    (Puts-after c.in_ok-put.ensures (Puts-after c.in_ok-put_message.ensures (Puts-after c.in_ok-put_hint.ensures c.put-2.ensures)))

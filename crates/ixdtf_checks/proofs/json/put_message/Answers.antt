@@ -1,7 +1,7 @@
 -- Proves that the three parts of the message are written, between quotes.
 use Rattle.ixdtf_checks.proofs.json.put_message.Goals as goal
 use Rattle.std.proofs.Common.{sym}
-use Rattle.ixdtf_checks.proofs.JsonLemmas.{Puts-same, string-parts}
+use Rattle.ixdtf_checks.proofs.JsonLemmas.{Puts-same, string-parts, string_put}
 use Rattle.ixdtf_buffers.proofs.OutputLemmas.{Puts-after, Puts-exit}
 use Rattle.ixdtf_grammar.specs.Messages.{shown_text}
 
@@ -18,25 +18,18 @@ returns-in_err-put_escaped g c =
 pub returns-in_err-put_escaped-2 : goal.returns-in_err-put_escaped-2
 returns-in_err-put_escaped-2 g c =
     let message = c.args.message.now in
-    Puts-same (sym (string-parts message.before.now (shown_text message.shown) message.after.now))
-    (Puts-after c.in_ok-put.ensures
-    (Puts-after (rw c.as_bytes.ensures.value at c.in_ok-put_escaped.ensures)
-    (Puts-exit _ (rw c.shown_bytes-shown.ensures at c.in_err-put_escaped-2.ensures) c.from_residual-in_err-put_escaped-2.ensures.1)))
+    string_put message.before.now (shown_text message.shown) message.after.now c.in_ok-put.ensures (rw c.as_bytes.ensures.value at c.in_ok-put_escaped.ensures)
+    (Puts-exit _ (rw c.shown_bytes-shown.ensures at c.in_err-put_escaped-2.ensures) c.from_residual-in_err-put_escaped-2.ensures.1)
 
 pub returns-in_err-put_escaped-3 : goal.returns-in_err-put_escaped-3
 returns-in_err-put_escaped-3 g c =
     let message = c.args.message.now in
-    Puts-same (sym (string-parts message.before.now (shown_text message.shown) message.after.now))
-    (Puts-after c.in_ok-put.ensures
-    (Puts-after (rw c.as_bytes.ensures.value at c.in_ok-put_escaped.ensures)
+    string_put message.before.now (shown_text message.shown) message.after.now c.in_ok-put.ensures (rw c.as_bytes.ensures.value at c.in_ok-put_escaped.ensures)
     (Puts-after (rw c.shown_bytes-shown.ensures at c.in_ok-put_escaped-2.ensures)
-    (Puts-exit _ (rw c.as_bytes-2.ensures.value at c.in_err-put_escaped-3.ensures) c.from_residual-in_err-put_escaped-3.ensures.1))))
+    (Puts-exit _ (rw c.as_bytes-2.ensures.value at c.in_err-put_escaped-3.ensures) c.from_residual-in_err-put_escaped-3.ensures.1))
 
 pub returns : goal.returns
 returns g c =
     let message = c.args.message.now in
-    Puts-same (sym (string-parts message.before.now (shown_text message.shown) message.after.now))
-    (Puts-after c.in_ok-put.ensures
-    (Puts-after (rw c.as_bytes.ensures.value at c.in_ok-put_escaped.ensures)
-    (Puts-after (rw c.shown_bytes-shown.ensures at c.in_ok-put_escaped-2.ensures)
-    (Puts-after (rw c.as_bytes-2.ensures.value at c.in_ok-put_escaped-3.ensures) c.put-2.ensures))))
+    string_put message.before.now (shown_text message.shown) message.after.now c.in_ok-put.ensures (rw c.as_bytes.ensures.value at c.in_ok-put_escaped.ensures)
+    (Puts-after (rw c.shown_bytes-shown.ensures at c.in_ok-put_escaped-2.ensures) (Puts-after (rw c.as_bytes-2.ensures.value at c.in_ok-put_escaped-3.ensures) c.put-2.ensures))

@@ -4,7 +4,7 @@ use Rattle.std.proofs.Common.{◌≡◌, take, get_or, subst, sym, arith}
 use Rattle.std.proofs.lemmas.{List.{length-take-le, take_all}, Str.{IsUtf8-take, IsUtf8-drop}}
 use Rattle.std.specs.Str.{IsUtf8}
 use Rattle.ixdtf_checks.specs.Pointed.{begun}
-use Rattle.ixdtf_checks.proofs.CharactersLemmas.{begun_counted, begun_most, lead_begun, starts_chars, starts_few, starts_more}
+use Rattle.ixdtf_checks.proofs.CharactersLemmas.{begun_counted, begun_most, boundary_counted, starts_chars, starts_few, starts_more}
 
 pub loop-end-init : goal.loop-end-init
 loop-end-init c =
@@ -22,17 +22,11 @@ loop-end-preserved c =
 
 pub returns-then-count-gt-FROM_PLACE-clause-front : goal.returns-then-count-gt-FROM_PLACE-clause-front
 returns-then-count-gt-FROM_PLACE-clause-front c =
-    let bs = c.args.bytes.now in
-    let byte = get_or bs c.loop-end.end 0 in
-    let one : c.from-count.result ≡ begun byte = begun_counted byte _ c.begins_character.result c.begins_character.ensures c.from-count.ensures in
-    IsUtf8-take bs c.loop-end.end c.requires (omega arith, λ _. lead_begun byte (omega (arith, one, begun_most byte)))
+    IsUtf8-take c.args.bytes.now c.loop-end.end c.requires (boundary_counted c.args.bytes.now c.loop-end.end _ _ (omega arith) c.begins_character.ensures c.from-count.ensures (omega arith))
 
 pub returns-then-count-gt-FROM_PLACE-clause-rest : goal.returns-then-count-gt-FROM_PLACE-clause-rest
 returns-then-count-gt-FROM_PLACE-clause-rest c =
-    let bs = c.args.bytes.now in
-    let byte = get_or bs c.loop-end.end 0 in
-    let one : c.from-count.result ≡ begun byte = begun_counted byte _ c.begins_character.result c.begins_character.ensures c.from-count.ensures in
-    IsUtf8-drop bs c.loop-end.end c.requires (omega arith, λ _. lead_begun byte (omega (arith, one, begun_most byte)))
+    IsUtf8-drop c.args.bytes.now c.loop-end.end c.requires (boundary_counted c.args.bytes.now c.loop-end.end _ _ (omega arith) c.begins_character.ensures c.from-count.ensures (omega arith))
 
 pub returns-then-count-gt-FROM_PLACE-clause-few : goal.returns-then-count-gt-FROM_PLACE-clause-few
 returns-then-count-gt-FROM_PLACE-clause-few c =
