@@ -2,15 +2,19 @@
 
 #![tactic(auto, unfolding(ixdtf_reading::specs::reading::Brackets::bracket_readings))]
 
-ghost use Rattle.std.specs.Prelude.{◌≡◌, ◌+◌, ◌*◌, map, length};
+ghost use Rattle.std.specs.Prelude.{◌≡◌, ◌+◌, ◌*◌, ◌≤◌, map, length, true, IfOk};
 ghost use Rattle.ixdtf_grammar.specs.language.Brackets.{skipped};
 ghost use Rattle.ixdtf_grammar.specs.language.Letters.{equals, closing, exclamation};
-ghost use Rattle.ixdtf_reading.specs.reading.Clauses.{Reads, Spends, SpendsOr};
-ghost use Rattle.ixdtf_brackets.specs.BracketTypes.{bracket_of};
+ghost use Rattle.ixdtf_reading.specs.reading.Clauses.{Reads, Spends, SpendsOr, behind};
+ghost use Rattle.ixdtf_reading.specs.reading.Pairs.{AtStart, value_run};
+ghost use Rattle.ixdtf_brackets.specs.BracketTypes.{Passes, bracket_of, name_after, stop_by};
+ghost use Rattle.ixdtf_reading.specs.reading.Runs.{letters_by};
 ghost use Rattle.ixdtf_reading.specs.reading.Looks.{error_of};
 ghost use Rattle.ixdtf_reading.specs.reading.Brackets.{refusal, name_stop, next_is, sight_at, name_or_pair_at, inside_at, bracket_at};
 
-use crate::zone::{NameState, parse_name_in_bracket, parse_offset_in_bracket, pass_name};
+use crate::zone::{
+    NameState, PassedName, parse_name_in_bracket, parse_offset_in_bracket, pass_name,
+};
 use ixdtf_grammar::Reason;
 use ixdtf_grammar::encoding::EncodingType;
 use ixdtf_grammar::records::{Annotation, TimeZoneAnnotation, TimeZoneRecord};
@@ -114,14 +118,14 @@ fn parse_name_or_pair<'a, T: EncodingType>(
     let behind_key = cursor.rest();
     let key = &start[..start.len().saturating_sub(behind_key.len())];
     if ends_key(next) {
-        let value = parse_annotation_value(cursor)?;
+        let value = parse_first_value(cursor)?;
         return Ok(Bracket::Pair(Annotation {
             critical,
             key,
             value,
         }));
     }
-    let more = pass_name(cursor, Reason::FirstBracketScan, Reason::FirstBracketScan)?;
+    let more = pass_rest_of_name(cursor)?;
     if more.state.may_end && ends_bracket(more.next) {
         let count = start.len().saturating_sub(cursor.rest().len());
         cursor.advance();
@@ -136,6 +140,35 @@ fn parse_name_or_pair<'a, T: EncodingType>(
     let refused = refuse_bracket(cursor.fork(), behind_key, more.state);
     *cursor = refused.there;
     Err(refused.stop)
+}
+
+/// Reads the `=` before the value of an annotation, the value, and the `]` after it, in a first bracket. Returns the code units
+/// of the value.
+///
+/// This function and `pass_rest_of_name` are functions of their own, so that `parse_inside` is not too large. Rattle's compiler
+/// ignores `#[inline(always)]` for a function that would become very large. If it ignored the attribute of `parse_inside`, each
+/// first bracket would take a call, whose result goes through memory (docs/PERF.md).
+fn parse_first_value<'a, T: EncodingType>(
+    cursor: &mut Cursor<'a, T>,
+) -> Result<&'a [T::CodeUnit], Reason>
+    ensures value { Reads T.letter (λ units. map T.number units.now) cursor.old result cursor.new
+        (behind (value_run error_of AtStart)) }
+    ensures looks { SpendsOr 1 0 cursor.old result cursor.new }
+    ensures shorter { IfOk result (λ value.
+        length value.now + 2 + length cursor.new.rest ≤ length cursor.old.rest) }
+{
+    parse_annotation_value(cursor)
+}
+
+/// Consumes the code units of a name that are after the code units of a key, part by part. A `/` separates two parts. At a bad
+/// code unit, returns `FirstBracketScan`.
+fn pass_rest_of_name<'a, T: EncodingType>(cursor: &mut Cursor<'a, T>) -> Result<PassedName, Reason>
+    ensures letters { Passes T.letter cursor.old result cursor.new
+        (letters_by (stop_by Reason.FirstBracketScan Reason.FirstBracketScan) name_after (record { may_end = true })) }
+    ensures looks { Spends 1 cursor.old cursor.new }
+    ensures shorter { length cursor.new.rest ≤ length cursor.old.rest }
+{
+    pass_name(cursor, Reason::FirstBracketScan, Reason::FirstBracketScan)
 }
 
 /// The class of all code units except `=` and `]`.

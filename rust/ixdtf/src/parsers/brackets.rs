@@ -2,7 +2,9 @@
 
 //! Functions that read the first bracket, which can be a zone or an annotation.
 
-use crate::parsers::zone::{NameState, parse_name_in_bracket, parse_offset_in_bracket, pass_name};
+use crate::parsers::zone::{
+    NameState, PassedName, parse_name_in_bracket, parse_offset_in_bracket, pass_name,
+};
 use crate::Reason;
 use crate::encoding::EncodingType;
 use crate::records::{Annotation, TimeZoneAnnotation, TimeZoneRecord};
@@ -89,14 +91,14 @@ fn parse_name_or_pair<'a, T: EncodingType>(
     let behind_key = cursor.rest();
     let key = &start[..start.len().saturating_sub(behind_key.len())];
     if ends_key(next) {
-        let value = parse_annotation_value(cursor)?;
+        let value = parse_first_value(cursor)?;
         return Ok(Bracket::Pair(Annotation {
             critical,
             key,
             value,
         }));
     }
-    let more = pass_name(cursor, Reason::FirstBracketScan, Reason::FirstBracketScan)?;
+    let more = pass_rest_of_name(cursor)?;
     if more.state.may_end && ends_bracket(more.next) {
         let count = start.len().saturating_sub(cursor.rest().len());
         cursor.advance();
@@ -111,6 +113,24 @@ fn parse_name_or_pair<'a, T: EncodingType>(
     let refused = refuse_bracket(cursor.fork(), behind_key, more.state);
     *cursor = refused.there;
     Err(refused.stop)
+}
+
+/// Reads the `=` before the value of an annotation, the value, and the `]` after it, in a first bracket. Returns the code units
+/// of the value.
+///
+/// This function and `pass_rest_of_name` are functions of their own, so that `parse_inside` is not too large. Rattle's compiler
+/// ignores `#[inline(always)]` for a function that would become very large. If it ignored the attribute of `parse_inside`, each
+/// first bracket would take a call, whose result goes through memory (docs/PERF.md).
+fn parse_first_value<'a, T: EncodingType>(
+    cursor: &mut Cursor<'a, T>,
+) -> Result<&'a [T::CodeUnit], Reason> {
+    parse_annotation_value(cursor)
+}
+
+/// Consumes the code units of a name that are after the code units of a key, part by part. A `/` separates two parts. At a bad
+/// code unit, returns `FirstBracketScan`.
+fn pass_rest_of_name<'a, T: EncodingType>(cursor: &mut Cursor<'a, T>) -> Result<PassedName, Reason> {
+    pass_name(cursor, Reason::FirstBracketScan, Reason::FirstBracketScan)
 }
 
 /// The class of all code units except `=` and `]`.

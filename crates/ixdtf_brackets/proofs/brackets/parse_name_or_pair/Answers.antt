@@ -35,8 +35,8 @@ pub returns-then-ends_bracket-clause-bracket : goal.returns-then-ends_bracket-cl
 returns-then-ends_bracket-clause-bracket g c =
     let keys = c.in_ok-next.ensures.letters in
     let passed = c.in_ok-more.ensures.letters in
-    let split : c.args.cursor.now.rest ≡ (keys.0 ++ passed.0) ++ c.pass_name.new.cursor.rest = rw (keys.1, passed.1, append_assoc) refl in
-    let front = front_is g.T.EncodingType.number c.rest-start.result.now c.rest.result.now (keys.0 ++ passed.0) c.pass_name.new.cursor.rest _ c.rest-start.ensures
+    let split : c.args.cursor.now.rest ≡ (keys.0 ++ passed.0) ++ c.pass_rest_of_name.new.cursor.rest = rw (keys.1, passed.1, append_assoc) refl in
+    let front = front_is g.T.EncodingType.number c.rest-start.result.now c.rest.result.now (keys.0 ++ passed.0) c.pass_rest_of_name.new.cursor.rest _ c.rest-start.ensures
     split c.rest.ensures in
     let is : (c.in_ok-more.more.state.may_end && next_is closing c.in_ok-more.more.next) ≡ true =
     rw c.if-more.true (sym c.ends_bracket.ensures ∙ c.if-ends_bracket.true) in
