@@ -93,7 +93,7 @@ def without_later(plain, checkout):
     if 'enum Format' not in fields:
         plain = plain.replace('Format, ', '')
     # In older checkouts, a check has one output.
-    if not os.path.exists(os.path.join(checkout, 'rust', 'ixdtf_check', 'src', 'second.rs')):
+    if not any(os.path.exists(os.path.join(checkout, 'rust', 'ixdtf_check', 'src', name)) for name in ('second.rs', 'second_output.rs')):
         plain = plain.replace('        &mut reports,\n', '')
     # In older checkouts, only date-times have canonical texts.
     return plain if 'Print(Kind)' in fields else plain.replace('Task::Print(Kind::DateTime)', 'Task::Print')

@@ -5,8 +5,8 @@ ghost use Rattle.ixdtf_answers.specs.Parts.{PutsAnswer};
 ghost use Rattle.ixdtf_buffers.specs.Lines.{newline};
 ghost use Rattle.ixdtf_buffers.specs.Output.{Puts};
 
-use crate::canonical::MOST_PRINTED;
-use crate::readers::answer_text;
+use crate::canonical_answers::MOST_PRINTED;
+use crate::reader_answers::answer_text;
 use crate::word::Word;
 use ixdtf_buffers::driver::LineTask;
 use ixdtf_buffers::error::RunError;

@@ -8,11 +8,11 @@
 #![tactic(auto)]
 
 mod answer;
-pub mod arguments;
-mod canonical;
-mod fields;
+mod answer_fields;
+mod canonical_answers;
 pub mod laws;
+pub mod no_arguments;
 mod outcome;
-mod readers;
+mod reader_answers;
 pub mod runner;
 mod word;

@@ -12,7 +12,7 @@ ghost use Rattle.ixdtf_answers.specs.Parts.{zone_field_front_of, zone_name_of, z
 ghost use Rattle.ixdtf_buffers.specs.Lines.{newline};
 ghost use Rattle.ixdtf_buffers.specs.Output.{Puts};
 
-use crate::fields::{
+use crate::answer_fields::{
     add_date_field, add_duration, add_instant, add_offset, add_offset_field, add_time_field,
     add_zone_field_front, add_zone_front,
 };

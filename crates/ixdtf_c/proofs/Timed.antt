@@ -3,7 +3,7 @@ use Rattle.std.proofs.Common.{◌≡◌, ◌∙◌, sym, Option, Some, None, IfS
 use Rattle.ixdtf_grammar.specs.declared.records.IxdtfParseRecord.{IxdtfParseRecord}
 use Rattle.ixdtf_instants.specs.declared.instant.Instant.{Instant}
 use Rattle.ixdtf.specs.Instants.{IsInstantOf}
-use Rattle.ixdtf_c.specs.declared.forms.{Date.Date, Time.Time, Offset.Offset}
+use Rattle.ixdtf_c.specs.declared.part_structs.{Date.Date, Time.Time, Offset.Offset}
 use Rattle.ixdtf_c.specs.{Standing.{date_by, time_by, offset_by}, Instants.{AreInstant, shift_fraction}}
 use Rattle.ixdtf_print.specs.Spelled.{HasDigits}
 

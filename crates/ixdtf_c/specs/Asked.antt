@@ -1,11 +1,11 @@
 -- What a program asks when it wants to know why a reader refuses a text.
-use Rattle.ixdtf_c.specs.declared.asked.Reader.TheVariants as named
+use Rattle.ixdtf_c.specs.declared.reader_numbers.Reader.TheVariants as named
 use Rattle.std.specs.Prelude.{◌≡◌, ℕ, List, [], nat_eq, if◌then◌else◌, Option, Some, None, IfSome, IfNone}
 use Rattle.ixdtf_grammar.specs.declared.{profile.Profile.{TheVariants.{Crate, Strict}}, reason.Reason.Reason}
 use Rattle.ixdtf.specs.language.{Letters.Text, Brackets.Pair, Languages.{Parsed, Found, Derives}, Readers.{Reader, parse, parse_rfc9557, parse_year_month, parse_month_day, parse_time}}
 use Rattle.ixdtf.specs.language.Readers.Reader.{bracketed, parse_rfc3339, parse_offset, parse_identifier, parse_iana_identifier, parse_duration}
 use Rattle.ixdtf.specs.{table.{Faults.Fault, Outcomes.{HasFaultAt, HasReason}}, Handlers.UnhandledRecord, Places.{UnhandledFaultAt, UnhandledReason}}
-use Rattle.ixdtf_c.specs.declared.asked.Reader.{Reader as Named}
+use Rattle.ixdtf_c.specs.declared.reader_numbers.Reader.{Reader as Named}
 
 -- A reader without a handler, or a reader that lists annotations and refuses none of them.
 pub data Asked : Type 0 where

@@ -1,7 +1,7 @@
 -- What functions compute from the fields of a record.
 use Rattle.std.specs.Prelude.{◌≡◌, ℕ, ◌+◌, ◌*◌, ◌<◌, ◌≤◌, ◌^◌, ℤ, pos, neg_ℤ, nat_eq, if◌then◌else◌, Option, Some, None}
 use Rattle.ixdtf.specs.language.Fractions.{FractionParts}
-use Rattle.ixdtf_c.specs.{declared.forms.{Offset.Offset}, Crossing.DurationContents, Standing.fraction_by}
+use Rattle.ixdtf_c.specs.{declared.part_structs.{Offset.Offset}, Crossing.DurationContents, Standing.fraction_by}
 
 -- The seconds in the hours and the minutes of an offset.
 abbrev pub clock_seconds : Offset → ℕ

@@ -9,7 +9,7 @@ use Rattle.ixdtf_grammar.specs.declared.records.{TimeDurationRecord.TimeDuration
 use Rattle.ixdtf_grammar.specs.declared.records.UtcOffsetRecordOrZ.{UtcOffsetRecordOrZ}
 use Rattle.ixdtf.specs.table.ErrorEquality.{location_of}
 use Rattle.ixdtf.specs.language.{Brackets.ZoneNote, Fractions.FractionParts, Languages.Parsed, ZoneNames.{Zone as SomeZone, Zone.{Name, Offset as ByOffset}}}
-use Rattle.ixdtf_c.specs.{declared.forms.{Date.Date, Time.Time, Offset.Offset}, Located.FaultAt, Numbers.outcome_number}
+use Rattle.ixdtf_c.specs.{declared.part_structs.{Date.Date, Time.Time, Offset.Offset}, Located.FaultAt, Numbers.outcome_number}
 
 -- ---- The contents of a record: its fields, with each slice as a list of the numbers of its code units.
 

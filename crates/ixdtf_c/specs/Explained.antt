@@ -2,7 +2,7 @@
 use Rattle.std.specs.Prelude.{◌≡◌, ◌≢◌, ◌↔◌, ℕ, List, length, min}
 use Rattle.ixdtf_grammar.specs.{declared.{reason.Reason.Reason, part.WrongPart.WrongPart}, Parts.{IsPart, extent_of}}
 use Rattle.ixdtf.specs.{language.Letters.Text, table.Faults.Fault}
-use Rattle.ixdtf_c.specs.{declared.explaining.Explanation.Explanation, Asked.{Asked, Accepts, IsRefusal}, Numbers.number_for, Reasons.reason_number}
+use Rattle.ixdtf_c.specs.{declared.explanations.Explanation.Explanation, Asked.{Asked, Accepts, IsRefusal}, Numbers.number_for, Reasons.reason_number}
 
 -- The explanation of a text that is accepted.
 abbrev pub nothing_wrong : Explanation

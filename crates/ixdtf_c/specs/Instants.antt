@@ -5,7 +5,7 @@ use Rattle.ixdtf_grammar.specs.declared.records.{DateRecord.DateRecord, TimeReco
 use Rattle.ixdtf.specs.language.{Fractions.FractionParts, OffsetRecords.fraction_of_offset}
 use Rattle.ixdtf_instants.specs.Calendar.{IsMonth}
 use Rattle.ixdtf.specs.Instants.{instant_count}
-use Rattle.ixdtf_c.specs.{declared.forms.{Date.Date, Time.Time, Offset.Offset}, Crossing.Contents, Standing.{date_by, time_by, offset_by}}
+use Rattle.ixdtf_c.specs.{declared.part_structs.{Date.Date, Time.Time, Offset.Offset}, Crossing.Contents, Standing.{date_by, time_by, offset_by}}
 use Rattle.ixdtf_print.specs.Spelled.{HasDigits}
 
 -- The fraction of an offset, or `None` if it has no fraction.

@@ -1,6 +1,6 @@
 -- The struct of durations.
 use Rattle.std.specs.Prelude.{◌≡◌}
-use Rattle.ixdtf_c.specs.{declared.durations.Duration.Duration, Crossing.DurationContents}
+use Rattle.ixdtf_c.specs.{declared.duration_struct.Duration.Duration, Crossing.DurationContents}
 
 abbrev pub contents : Duration → DurationContents
 contents d = record {

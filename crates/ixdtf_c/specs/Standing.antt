@@ -9,7 +9,7 @@ use Rattle.ixdtf_grammar.specs.declared.records.{DateDurationRecord.DateDuration
 use Rattle.ixdtf_grammar.specs.declared.records.{TimeDurationRecord.TimeDurationRecord, UtcOffsetRecord.UtcOffsetRecord, UtcOffsetRecordOrZ.UtcOffsetRecordOrZ}
 use Rattle.ixdtf.specs.language.{Brackets.ZoneNote, Fractions.FractionParts, Languages.Parsed, OffsetRecords.sign_for}
 use Rattle.ixdtf.specs.language.ZoneNames.{Zone as Area, Zone.{Name, Offset as ByOffset}}
-use Rattle.ixdtf_c.specs.{declared.forms.{Date.Date, Time.Time, Offset.Offset}, Crossing.{Contents, ZoneContents, DurationContents}}
+use Rattle.ixdtf_c.specs.{declared.part_structs.{Date.Date, Time.Time, Offset.Offset}, Crossing.{Contents, ZoneContents, DurationContents}}
 
 -- The value if it is present, and otherwise `None`.
 abbrev pub where_there : {A : Type 0} → Bool → A → Option A

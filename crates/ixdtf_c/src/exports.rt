@@ -36,7 +36,7 @@ ghost use Rattle.ixdtf_c.specs.Wide.{annotation_by as wide_annotation_by, calend
 ghost use Rattle.ixdtf_print.specs.Canonical.{canonical_text};
 ghost use Rattle.ixdtf_print.specs.Printable.{IsPrintable};
 
-use crate::durations::{Duration, duration_into};
+use crate::duration_struct::{Duration, duration_into};
 use crate::narrow::{Annotation, Calendar, Record};
 use crate::readers::{name_into, offset_into, read_into, rfc3339_into, take_reply, zone_into};
 use crate::{narrow_annotations, wide, wide_annotations};

@@ -8,11 +8,11 @@ ghost use Rattle.ixdtf_c.specs.Fielded.{keyed};
 ghost use Rattle.ixdtf_c.specs.Narrow.{contents as record_contents, zone_contents, SameButError, annotation_by, calendar_by};
 ghost use Rattle.ixdtf_c.specs.Standing.{units_where};
 
-use crate::errors::number_and_location;
-use crate::forms::{Date, Offset, Time};
-use crate::printing::zone_of;
+use crate::error_numbers::number_and_location;
+use crate::part_structs::{Date, Offset, Time};
+use crate::record_conversion::zone_of;
 use crate::slices::{Slice, from_c, to_c};
-use crate::widths::{AnnotationOf, CalendarOf, RecordOf, ZoneOf, put_zone};
+use crate::struct_traits::{AnnotationOf, CalendarOf, RecordOf, ZoneOf, put_zone};
 use ixdtf::LocatedError;
 use ixdtf::encoding::Utf8;
 use ixdtf::records::{self, IxdtfParseRecord, TimeZoneAnnotation};

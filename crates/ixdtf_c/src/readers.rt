@@ -10,8 +10,8 @@ ghost use Rattle.ixdtf_c.specs.Located.{FaultAt, HasOutcome};
 ghost use Rattle.ixdtf_c.specs.Outcomes.{ReadsRecord, GivesRecord, GivesPart};
 ghost use Rattle.ixdtf_c.specs.Replying.{TakesReply};
 
-use crate::errors::number_and_location;
-use crate::widths::{AnnotationOf, CalendarOf, RecordOf};
+use crate::error_numbers::number_and_location;
+use crate::struct_traits::{AnnotationOf, CalendarOf, RecordOf};
 use ixdtf::LocatedError;
 use ixdtf::encoding::EncodingType;
 use ixdtf::parsers::{CoreReader, FromStop, IxdtfParser, Profile, TimeZoneParser};

@@ -8,7 +8,7 @@ mod printing;
 mod rows;
 mod wide;
 
-use crate::errors::{Text, ixdtf_error_text};
+use crate::error_numbers::{Text, ixdtf_error_text};
 use crate::version::ixdtf_interface_version;
 
 #[test]

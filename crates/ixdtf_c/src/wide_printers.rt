@@ -15,9 +15,11 @@ ghost use Rattle.ixdtf_print.specs.Times.{lone_time_text, IsPrintableTime, IsTim
 ghost use Rattle.ixdtf_print.specs.YearMonths.{year_month_text, IsPrintableYearMonth, IsYearMonthReadBack};
 ghost use Rattle.ixdtf_print.specs.Zones.{IsPrintableZone, IsZoneReadBack};
 
-use crate::durations::Duration;
-use crate::forms::Offset;
-use crate::texts::{AsDateTime, AsMonthDay, AsTime, AsYearMonth, AsZone, length_into, print_into};
+use crate::duration_struct::Duration;
+use crate::part_structs::Offset;
+use crate::value_texts::{
+    AsDateTime, AsMonthDay, AsTime, AsYearMonth, AsZone, length_into, print_into,
+};
 use crate::wide::{Record, Zone};
 use ixdtf::encoding::Utf16;
 

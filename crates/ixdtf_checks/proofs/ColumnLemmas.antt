@@ -2,7 +2,7 @@
 use Rattle.std.proofs.Common.{◌≡◌, ◌≢◌, ◌⊎◌, inl, inr, ℕ, zero, suc, ◌+◌, ◌-◌, ◌<◌, Bool, true, false, if◌then◌else◌, List, length, take, drop, Option, Some, None, option_map, position, refl, sym, ap, ◌∙◌, subst, arith}
 use Rattle.std.proofs.lemmas.{Bool.cases_order, List.drop-drop, Option.{none-some, same_Some}}
 use Rattle.ixdtf_buffers.specs.Lines.{is_byte}
-use Rattle.ixdtf_checks.specs.{Columns.{IsNamed, IsColumn, IsMissing, HasNoColumn}, Parts.{field_start, front_field}, declared.column.ColumnError.TheVariants.{Twice}}
+use Rattle.ixdtf_checks.specs.{Columns.{IsNamed, IsColumn, IsMissing, HasNoColumn}, Parts.{field_start, front_field}, declared.named_column.ColumnError.TheVariants.{Twice}}
 use Rattle.ixdtf_checks.proofs.CsvLemmas.{rest_of}
 
 -- Of the first `count` fields, this is the only one that has the name. If it is `None`, none of them has the name.

@@ -9,7 +9,7 @@ use Rattle.std.specs.{Str.{IsAscii, IsUtf8, IsCharBoundary, is_utf8, chars, enco
 use lib.Utf8.{encode}
 use Rattle.ixdtf_grammar.specs.LocatedTexts.{shown, column_of, cut_mark, indent_of, marks_of, pointed_text}
 use Rattle.ixdtf_buffers.specs.{Adding.Adds, Lines.newline}
-use Rattle.ixdtf_checks.specs.{declared.pointed.Window.Window, Pointed.{Fits, IsNear, IsWindow, mark_of, bytes_in, masked, window_lines}, Seen.lines_at}
+use Rattle.ixdtf_checks.specs.{declared.marked_text.Window.Window, Pointed.{Fits, IsNear, IsWindow, mark_of, bytes_in, masked, window_lines}, Seen.lines_at}
 use Rattle.ixdtf_checks.proofs.{CharactersLemmas.{column_at, column_beyond}, CsvLemmas.rest_of, MaskedLemmas.{masked_shown}}
 
 ascii_cut : (is_cut : Bool) → IsAscii (cut_mark is_cut)

@@ -5,7 +5,7 @@ use Rattle.std.specs.{Bool.MatchBool, Io.KnownBytes.Appends, Result.is_err}
 use Rattle.ixdtf_buffers.specs.{declared.{error.RunError.{RunError, TheVariants.{Read, Write}}, output.Output.Output}, Output.{AppendsFront, Puts, written}}
 use Rattle.ixdtf_buffers.proofs.OutputLemmas.{AppendsFront-more, Sent-all}
 use Rattle.ixdtf_buffers.specs.{Lines.{lines_of, ended_lines_of, last_line_of, unended_of}, Tasks.{Does, DoesFront, Reads}}
-use Rattle.ixdtf_checks.specs.{declared.second.SecondOutput.SecondOutput, Second.{AddsReports, IsWritten}}
+use Rattle.ixdtf_checks.specs.{declared.second_output.SecondOutput.SecondOutput, Second.{AddsReports, IsWritten}}
 
 -- A prefix of bytes was written after other bytes.
 Front-after : (a b c : Option (List ℕ)) (xs : List ℕ) {ys : List ℕ} → Appends a b xs → AppendsFront b c ys → AppendsFront a c (xs ++ ys)

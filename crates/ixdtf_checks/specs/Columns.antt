@@ -1,7 +1,7 @@
 -- Defines which field has a name in the first line of a file.
 use Rattle.std.specs.Prelude.{◌≡◌, ℕ, ◌<◌, List, drop, position, Option, Some, None, option_map}
 use Rattle.ixdtf_buffers.specs.Lines.{is_byte}
-use Rattle.ixdtf_checks.specs.{Parts.{field_start, front_field}, declared.column.ColumnError.{ColumnError, TheVariants.{Missing, NoSeparator, Twice, NoRecord}}}
+use Rattle.ixdtf_checks.specs.{Parts.{field_start, front_field}, declared.named_column.ColumnError.{ColumnError, TheVariants.{Missing, NoSeparator, Twice, NoRecord}}}
 
 -- This is the field after `before` other fields.
 abbrev pub field_in : ℕ → ℕ → List ℕ → Option (List ℕ)

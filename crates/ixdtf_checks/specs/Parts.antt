@@ -2,7 +2,7 @@
 use Rattle.std.specs.Prelude.{◌≡◌, ℕ, Bool, true, false, zero, suc, ◌+◌, ◌-◌, ◌==◌, ◌&&◌, if◌then◌else◌, List, length, take, drop, Option, Some, None, position, option_map, slice_index_or, MatchOption}
 use Rattle.std.specs.Option.{option_and_then, unwrap_or}
 use Rattle.ixdtf_buffers.specs.Lines.{is_byte}
-use Rattle.ixdtf_checks.specs.declared.{request.{Field.Field, Extent.{Extent, TheVariants.{One, More, Csv}}}, part.{Part.Part, Lost.{Lost, TheVariants.{NoField, Broken}}}}
+use Rattle.ixdtf_checks.specs.declared.{request.{Field.Field, Extent.{Extent, TheVariants.{One, More, Csv}}}, line_part.{Part.Part, Lost.{Lost, TheVariants.{NoField, Broken}}}}
 use Rattle.ixdtf_checks.specs.Csv.{Cell, Cell.{escaped, unescaped}, IsBad, IsField, HasFew, quote, quotes_in}
 
 -- This is the line without the carriage return at its end, if there is one.

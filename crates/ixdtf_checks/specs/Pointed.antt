@@ -3,7 +3,7 @@ use Rattle.std.specs.Prelude.{◌≡◌, ℕ, Bool, true, ◌+◌, ◌-◌, ◌�
 use Rattle.std.specs.Str.{chars}
 use Rattle.ixdtf_grammar.specs.LocatedTexts.{shown, column_of, cut_mark, indent_of}
 use Rattle.ixdtf_buffers.specs.Lines.{newline}
-use Rattle.ixdtf_checks.specs.declared.pointed.Window.{Window}
+use Rattle.ixdtf_checks.specs.declared.marked_text.Window.{Window}
 
 -- The byte is the first byte of a character, and not a later one.
 abbrev pub begins_character : ℕ → Bool

@@ -1,7 +1,7 @@
 -- What is in the second output of a check.
 use Rattle.std.specs.{Prelude.{◌≡◌, ℕ, List, [], ◌++◌, Option}, Bool.MatchBool, Io.KnownBytes.Appends}
 use Rattle.ixdtf_buffers.specs.Output.{AppendsFront, written}
-use Rattle.ixdtf_checks.specs.declared.second.SecondOutput.{SecondOutput}
+use Rattle.ixdtf_checks.specs.declared.second_output.SecondOutput.{SecondOutput}
 
 -- `start` is what was in the sink at the beginning. These bytes were written to it since then, and nothing waits in the buffer. Or a write
 -- failed after a prefix of them.

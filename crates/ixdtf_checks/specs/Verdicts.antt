@@ -4,7 +4,7 @@ use Rattle.ixdtf_grammar.specs.{declared.{profile.Profile.Profile, located.{Loca
 use Rattle.ixdtf_grammar.specs.{Widths.{HasUnhandledOutcome, byte_text, UnhandledOutcome.read_as}, language.{Languages.{Found}}}
 use Rattle.ixdtf_grammar.specs.{language.Readers.{Reader}}
 use Rattle.ixdtf_buffers.specs.Lines.{newline}
-use Rattle.ixdtf_checks.specs.{declared.{part.Lost.{Lost, TheVariants.{NoField, Broken}}, request.{Request.Request, Task.{Task, TheVariants.{Check, Print, Order}}}}, Kinds.{has_offset, reader_of, instant_reader_of}}
+use Rattle.ixdtf_checks.specs.{declared.{line_part.Lost.{Lost, TheVariants.{NoField, Broken}}, request.{Request.Request, Task.{Task, TheVariants.{Check, Print, Order}}}}, Kinds.{has_offset, reader_of, instant_reader_of}}
 use Rattle.ixdtf_instants.specs.declared.instant.Instant.{Instant}
 use Rattle.ixdtf_checks.specs.{Canonicals.IsCanonical, Order.{IsTimed, IsUntimed, IsTooEarly}, Csv.{quoting_message, quoting_name}, Parts.{Text, HasText, IsLost, line_in, width_of}, Skipped.is_skipped, Spaced.{HasHint, SaysWhy}, Errors.HasError}
 

@@ -5,7 +5,7 @@
 ghost use Rattle.std.specs.Prelude.{◌≡◌, ◌+◌, ◌≤◌, length};
 
 use crate::csv::Quoting;
-use crate::part::Part;
+use crate::line_part::Part;
 use ixdtf::{Instant, LocatedReason};
 
 /// Why a line is refused.

@@ -5,10 +5,10 @@ ghost use Rattle.ixdtf_buffers.specs.Lines.{lines_of, ended_lines_of};
 ghost use Rattle.ixdtf_checks.specs.Checks.{Reports, ReportsFront};
 
 use crate::checking::Checking;
-use crate::printed::PrintedText;
+use crate::printed_line::PrintedText;
+use crate::report_room::ReportRoom;
 use crate::request::Request;
-use crate::room::ReportRoom;
-use crate::second::SecondOutput;
+use crate::second_output::SecondOutput;
 use crate::tally::Tally;
 use crate::verdict::LINE_LIMIT;
 use ixdtf_buffers::driver::drive;

@@ -11,10 +11,10 @@ ghost use Rattle.ixdtf_checks.specs.Seen.{lines_in, seen_cause};
 ghost use Rattle.ixdtf_checks.specs.Texts.{line_and_column};
 
 use crate::cause::Cause;
-use crate::explaining::{refusal_of, shown_hint};
-use crate::pointed::{ROOM, add_lines};
+use crate::marked_text::{ROOM, add_lines};
 use crate::refusal::Marked;
-use crate::room::ReportRoom;
+use crate::report_contents::{refusal_of, shown_hint};
+use crate::report_room::ReportRoom;
 use crate::shown::put_message;
 use ixdtf::Message;
 use ixdtf_buffers::adding::{add_byte, add_bytes, add_number};

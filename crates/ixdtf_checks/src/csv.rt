@@ -5,7 +5,7 @@ ghost use Rattle.ixdtf_checks.specs.Csv.{Cell, IsBad, IsCell, IsRecord, begins_q
 ghost use Rattle.ixdtf_checks.specs.Parts.{HasCell, IsLostCell, seen_part, text_in};
 ghost use Rattle.ixdtf_checks.specs.Walks.{HasEnding, IsClosed, IsFirst, IsWalk, place_in, reach_of};
 
-use crate::part::{Lost, Part};
+use crate::line_part::{Lost, Part};
 use crate::verdict::LINE_LIMIT;
 use ixdtf_buffers::adding::{add_byte, add_bytes};
 use ixdtf_buffers::place::place_of;

@@ -13,8 +13,8 @@ ghost use Rattle.ixdtf_checks.specs.Reports.{IsRefusalReport};
 ghost use Rattle.ixdtf_checks.specs.Seen.{seen_cause, seen_refusal};
 
 use crate::cause::Cause;
-use crate::explaining::{hint_of, name_of, refusal_of};
 use crate::refusal::Refusal;
+use crate::report_contents::{hint_of, name_of, refusal_of};
 use crate::shown::{SHOWN_ROOM, shown_bytes};
 use ixdtf::{Message, byte_digits};
 use ixdtf_buffers::adding::{add_bytes, add_number};

@@ -16,7 +16,7 @@ ghost use Rattle.ixdtf_checks.specs.Errors.{HasError};
 ghost use Rattle.ixdtf_checks.specs.Kinds.{reader_of};
 
 use crate::kind::Kind;
-use crate::printed::PrintedText;
+use crate::printed_line::PrintedText;
 use crate::reading::{duration_parser, parser};
 use ixdtf::LocatedError;
 use ixdtf::parsers::{IxdtfParser, Profile, TimeZoneParser};

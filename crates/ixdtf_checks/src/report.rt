@@ -11,13 +11,13 @@ ghost use Rattle.ixdtf_checks.specs.Texts.{line_and_column, text_of};
 
 use crate::cause::Cause;
 use crate::coloured::put_coloured;
-use crate::explaining::{has_space, hint_of, refusal_of, shown_hint};
 use crate::json::put_object;
-use crate::pointed::{ROOM, add_lines};
-use crate::printed::PrintedText;
+use crate::marked_text::{ROOM, add_lines};
+use crate::printed_line::PrintedText;
 use crate::refusal::{Marked, Refusal};
+use crate::report_contents::{has_space, hint_of, refusal_of, shown_hint};
+use crate::report_room::ReportRoom;
 use crate::request::{Format, Request};
-use crate::room::ReportRoom;
 use crate::shown::{add_byte_number, add_character, put_message};
 use crate::verdict::Verdict;
 use ixdtf::{Message, Shown};

@@ -4,7 +4,7 @@ ghost use Rattle.ixdtf_checks.specs.Kept.{IsKept};
 ghost use Rattle.ixdtf_checks.specs.Parts.{line_in};
 ghost use Rattle.ixdtf_checks.specs.Skipped.{is_blank, is_comment, is_skipped, is_skipped_by};
 
-use crate::part::{line_in, without_return};
+use crate::line_part::{line_in, without_return};
 use crate::request::Skips;
 
 /// Returns the line without the bytes that do not belong to it. Returns `None` if the line is skipped.

@@ -1,7 +1,7 @@
 //! Answers each line of standard input by a line on standard output.
 #![tactic(auto)]
 
-use ixdtf_answers::arguments::arguments_allowed;
+use ixdtf_answers::no_arguments::arguments_allowed;
 use ixdtf_answers::runner::answer_lines;
 use ixdtf_buffers::error::RunError;
 use std::env;

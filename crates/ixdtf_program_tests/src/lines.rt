@@ -3,7 +3,7 @@
 mod faults;
 mod words;
 
-use ixdtf_answers::arguments::arguments_allowed;
+use ixdtf_answers::no_arguments::arguments_allowed;
 use ixdtf_answers::runner::run;
 use ixdtf_buffers::adding::add_number;
 use ixdtf_buffers::error::RunError;

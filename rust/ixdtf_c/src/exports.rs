@@ -21,7 +21,7 @@
 //! - `unchanged`: After an error, only the fields `location` and `place` of the record can be different. Every other field
 //!   has its old value. This is so for slices too.
 
-use crate::durations::{Duration, duration_into};
+use crate::duration_struct::{Duration, duration_into};
 use crate::narrow::{Annotation, Calendar, Record};
 use crate::readers::{name_into, offset_into, read_into, rfc3339_into, take_reply, zone_into};
 use crate::{narrow_annotations, wide, wide_annotations};

@@ -18,42 +18,42 @@
 
 #![cfg_attr(not(test), no_std)]
 
-mod adding;
-mod asked;
-mod duration_texts;
-mod durations;
-mod encodings;
-mod errors;
-mod explaining;
+mod computed_fields;
+mod duration_conversion;
+mod duration_fractions;
+mod duration_struct;
+mod error_constants;
+mod error_numbers;
+mod error_reports;
+mod explanations;
 mod exports;
-mod fields;
-mod forms;
-mod instants;
-mod last_fractions;
-mod names;
 pub mod narrow;
 mod narrow_annotations;
-mod part_texts;
-mod pointed;
-mod printers;
-mod printing;
+mod narrow_printers;
+mod part_conversion;
+mod part_structs;
+mod printer_trait;
+mod reader_errors;
+mod reader_numbers;
 mod readers;
-mod reasons;
-mod refusals;
-mod reports;
-mod shown;
+mod reason_numbers;
+mod record_conversion;
+mod record_instants;
+mod report_bytes;
+mod report_marks;
+mod report_messages;
 mod slices;
-mod texts;
+mod struct_traits;
+mod value_texts;
 mod version;
 pub mod wide;
 mod wide_annotations;
 mod wide_printers;
-mod widths;
 
-pub use durations::Duration;
-pub use errors::Text;
-pub use explaining::Explanation;
-pub use forms::{Date, Offset, Time};
+pub use duration_struct::Duration;
+pub use error_numbers::Text;
+pub use explanations::Explanation;
+pub use part_structs::{Date, Offset, Time};
 
 #[cfg(not(test))]
 mod abort;

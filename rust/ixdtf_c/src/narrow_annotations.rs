@@ -4,7 +4,7 @@
 
 use crate::narrow::{Annotation, Record};
 use crate::slices::to_c;
-use crate::widths::RecordOf;
+use crate::struct_traits::RecordOf;
 use ixdtf::LocatedError;
 use ixdtf::encoding::Utf8;
 use ixdtf::parsers::{CoreReader, FromStop, IxdtfParser, Profile};

@@ -2,8 +2,8 @@
 
 //! The readers and the check of replies, for 8-bit and for 16-bit text.
 
-use crate::errors::number_and_location;
-use crate::widths::{AnnotationOf, CalendarOf, RecordOf};
+use crate::error_numbers::number_and_location;
+use crate::struct_traits::{AnnotationOf, CalendarOf, RecordOf};
 use ixdtf::LocatedError;
 use ixdtf::encoding::EncodingType;
 use ixdtf::parsers::{CoreReader, FromStop, IxdtfParser, Profile, TimeZoneParser};

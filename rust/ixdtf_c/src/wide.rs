@@ -4,11 +4,11 @@
 //!
 //! In C, a `Slice` is a pointer and a length.
 
-use crate::errors::number_and_location;
-use crate::forms::{Date, Offset, Time};
-use crate::printing::zone_of;
+use crate::error_numbers::number_and_location;
+use crate::part_structs::{Date, Offset, Time};
+use crate::record_conversion::zone_of;
 use crate::slices::{Slice, from_c, to_c};
-use crate::widths::{AnnotationOf, CalendarOf, RecordOf, ZoneOf, put_zone};
+use crate::struct_traits::{AnnotationOf, CalendarOf, RecordOf, ZoneOf, put_zone};
 use ixdtf::LocatedError;
 use ixdtf::encoding::Utf16;
 use ixdtf::records::{self, IxdtfParseRecord, TimeZoneAnnotation};

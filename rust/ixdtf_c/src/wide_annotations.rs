@@ -3,8 +3,8 @@
 //! The readers of 16-bit text that list annotations.
 
 use crate::slices::to_c;
+use crate::struct_traits::RecordOf;
 use crate::wide::{Annotation, Record};
-use crate::widths::RecordOf;
 use ixdtf::LocatedError;
 use ixdtf::encoding::Utf16;
 use ixdtf::parsers::{CoreReader, FromStop, IxdtfParser, Profile};

@@ -2,9 +2,11 @@
 
 //! The functions for C that print canonical texts in 16-bit code units.
 
-use crate::durations::Duration;
-use crate::forms::Offset;
-use crate::texts::{AsDateTime, AsMonthDay, AsTime, AsYearMonth, AsZone, length_into, print_into};
+use crate::duration_struct::Duration;
+use crate::part_structs::Offset;
+use crate::value_texts::{
+    AsDateTime, AsMonthDay, AsTime, AsYearMonth, AsZone, length_into, print_into,
+};
 use crate::wide::{Record, Zone};
 use ixdtf::encoding::Utf16;
 

@@ -6,7 +6,7 @@
 //! written. For this reason, few bytes are copied from one function to another. If a report is not written, nothing is made for it.
 
 use crate::csv::Quoting;
-use crate::part::Part;
+use crate::line_part::Part;
 use ixdtf::{Instant, LocatedReason};
 
 /// Why a line is refused.

@@ -3,10 +3,10 @@
 //! Checks all lines of an input.
 
 use crate::checking::Checking;
-use crate::printed::PrintedText;
+use crate::printed_line::PrintedText;
+use crate::report_room::ReportRoom;
 use crate::request::Request;
-use crate::room::ReportRoom;
-use crate::second::SecondOutput;
+use crate::second_output::SecondOutput;
 use crate::tally::Tally;
 use crate::verdict::LINE_LIMIT;
 use ixdtf_buffers::driver::drive;

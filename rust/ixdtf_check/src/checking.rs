@@ -3,11 +3,11 @@
 //! The work of a check for one line.
 
 use crate::judge::judge;
-use crate::printed::PrintedText;
+use crate::printed_line::PrintedText;
 use crate::report::put_report;
+use crate::report_room::ReportRoom;
 use crate::request::Request;
-use crate::room::ReportRoom;
-use crate::second::SecondOutput;
+use crate::second_output::SecondOutput;
 use crate::tally::Tally;
 use crate::verdict::{LINE_LIMIT, Verdict};
 use ixdtf::Instant;

@@ -5,10 +5,10 @@
 //! A person reads these reports, and they are few. So this code is plain: it writes each part of a report with a call of its own.
 
 use crate::cause::Cause;
-use crate::explaining::{refusal_of, shown_hint};
-use crate::pointed::{ROOM, add_lines};
+use crate::marked_text::{ROOM, add_lines};
 use crate::refusal::Marked;
-use crate::room::ReportRoom;
+use crate::report_contents::{refusal_of, shown_hint};
+use crate::report_room::ReportRoom;
 use crate::shown::put_message;
 use ixdtf::Message;
 use ixdtf_buffers::adding::{add_byte, add_bytes, add_number};

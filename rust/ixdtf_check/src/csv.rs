@@ -2,7 +2,7 @@
 
 //! The fields of a record of RFC 4180. Some of these fields may be in quotes.
 
-use crate::part::{Lost, Part};
+use crate::line_part::{Lost, Part};
 use crate::verdict::LINE_LIMIT;
 use ixdtf_buffers::adding::{add_byte, add_bytes};
 use ixdtf_buffers::place::place_of;

@@ -4,10 +4,10 @@
 
 use crate::cause::{Cause, Unread, WholeText};
 use crate::csv::Quoting;
-use crate::instants::read_instant;
+use crate::instant_reading::read_instant;
 use crate::kind::{InstantKind, Kind};
-use crate::part::{Lost, Part, part_of};
-use crate::printed::PrintedText;
+use crate::line_part::{Lost, Part, part_of};
+use crate::printed_line::PrintedText;
 use crate::printing::{print_date_time, read_to_print};
 use crate::reading::{read, read_date_time};
 use crate::request::{Field, Request, Task};

@@ -3,7 +3,7 @@
 //! Reads a text, and prints its canonical text.
 
 use crate::kind::Kind;
-use crate::printed::PrintedText;
+use crate::printed_line::PrintedText;
 use crate::reading::{duration_parser, parser};
 use ixdtf::LocatedError;
 use ixdtf::parsers::{IxdtfParser, Profile, TimeZoneParser};

@@ -2,7 +2,7 @@
 
 //! Which lines have no text, and are skipped.
 
-use crate::part::{line_in, without_return};
+use crate::line_part::{line_in, without_return};
 use crate::request::Skips;
 
 /// Returns the line without the bytes that do not belong to it. Returns `None` if the line is skipped.

@@ -2,8 +2,8 @@
 
 //! Writes the answer for a line.
 
-use crate::canonical::MOST_PRINTED;
-use crate::readers::answer_text;
+use crate::canonical_answers::MOST_PRINTED;
+use crate::reader_answers::answer_text;
 use crate::word::Word;
 use ixdtf_buffers::driver::LineTask;
 use ixdtf_buffers::error::RunError;

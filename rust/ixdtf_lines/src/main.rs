@@ -4,16 +4,16 @@
 #![forbid(unsafe_code)]
 
 mod answer;
-mod arguments;
-mod canonical;
-mod fields;
+mod answer_fields;
+mod canonical_answers;
+mod no_arguments;
 mod outcome;
-mod readers;
+mod reader_answers;
 mod runner;
 mod word;
 
-use arguments::arguments_allowed;
 use ixdtf_buffers::error::RunError;
+use no_arguments::arguments_allowed;
 use runner::run;
 use std::io::{Write, stdin, stdout};
 use std::process::ExitCode;

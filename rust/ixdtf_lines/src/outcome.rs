@@ -2,7 +2,7 @@
 
 //! Writes the answer for a value or an error that a reader returned.
 
-use crate::fields::{
+use crate::answer_fields::{
     add_date_field, add_duration, add_instant, add_offset, add_offset_field, add_time_field,
     add_zone_field_front, add_zone_front,
 };

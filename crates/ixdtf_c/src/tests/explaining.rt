@@ -1,10 +1,10 @@
 //! Tests of the functions that explain an error.
 
 use super::wide::Units;
-use crate::errors::Text;
-use crate::explaining::{Explanation, ixdtf_explain, ixdtf16_explain};
-use crate::reasons::ixdtf_reason_line;
-use crate::reports::{ixdtf_describe, ixdtf_hint};
+use crate::error_numbers::Text;
+use crate::error_reports::{ixdtf_describe, ixdtf_hint};
+use crate::explanations::{Explanation, ixdtf_explain, ixdtf16_explain};
+use crate::reason_numbers::ixdtf_reason_line;
 
 /// An explanation in which no field is 0.
 const EXPLANATION: Explanation = Explanation {

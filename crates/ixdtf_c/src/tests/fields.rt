@@ -3,15 +3,15 @@
 use super::narrow::RECORD;
 use super::rows::DURATION;
 use super::wide;
-use crate::errors::Text;
+use crate::computed_fields::{ixdtf_nanoseconds, ixdtf_offset_seconds, ixdtf_printed_length};
+use crate::duration_fractions::ixdtf_duration_fraction;
+use crate::error_constants::ixdtf_error_constant;
+use crate::error_numbers::Text;
 use crate::exports::{
     ixdtf_parse, ixdtf_parse_duration, ixdtf_parse_offset, ixdtf_reply, ixdtf16_reply,
 };
-use crate::fields::{ixdtf_nanoseconds, ixdtf_offset_seconds, ixdtf_printed_length};
-use crate::instants::{ixdtf_instant, ixdtf16_instant};
-use crate::last_fractions::ixdtf_duration_fraction;
-use crate::names::ixdtf_error_constant;
 use crate::narrow::{Annotation, Calendar, ixdtf_keep_calendar};
+use crate::record_instants::{ixdtf_instant, ixdtf16_instant};
 use crate::wide::ixdtf16_keep_calendar;
 
 /// Each row has the digits of a fraction as one number, the number of digits, and the nanoseconds.

@@ -7,14 +7,14 @@ use crate::exports::{
     ixdtf_parse, ixdtf_parse_duration, ixdtf_parse_identifier, ixdtf_parse_month_day,
     ixdtf_parse_offset, ixdtf_parse_time, ixdtf_parse_year_month, ixdtf16_parse,
 };
-use crate::forms::{Date, Offset, Time};
 use crate::narrow::Record;
-use crate::printers::{
+use crate::narrow_printers::{
     ixdtf_print, ixdtf_print_duration, ixdtf_print_month_day, ixdtf_print_offset, ixdtf_print_time,
     ixdtf_print_year_month, ixdtf_print_zone, ixdtf_printed_duration_length,
     ixdtf_printed_month_day_length, ixdtf_printed_offset_length, ixdtf_printed_time_length,
     ixdtf_printed_year_month_length, ixdtf_printed_zone_length,
 };
+use crate::part_structs::{Date, Offset, Time};
 use crate::wide_printers::{ixdtf16_print, ixdtf16_printed_length};
 use std::process::Abort;
 

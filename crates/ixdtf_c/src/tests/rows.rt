@@ -1,7 +1,7 @@
 //! The tables of texts and replies for the tests of both widths.
 
-use crate::durations::Duration;
-use crate::forms::{Date, Offset, Time};
+use crate::duration_struct::Duration;
+use crate::part_structs::{Date, Offset, Time};
 
 /// The readers that write a record.
 #[derive(Clone, Copy)]

@@ -2,9 +2,9 @@
 
 use ixdtf::parsers::Profile;
 use ixdtf_checks::arguments::{FieldName, Options, Word, Wrong, meant_by};
+use ixdtf_checks::exit_status::status_of;
 use ixdtf_checks::kind::{InstantKind, Kind};
 use ixdtf_checks::request::{Extent, Field, Format, Skips, Task};
-use ixdtf_checks::status::status_of;
 use ixdtf_checks::tally::Tally;
 use std::process::Abort;
 

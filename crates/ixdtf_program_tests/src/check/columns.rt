@@ -1,6 +1,6 @@
 //! Tests which field has a name in the first line.
 
-use ixdtf_checks::column::{ColumnError, column_in_record, column_named};
+use ixdtf_checks::named_column::{ColumnError, column_in_record, column_named};
 
 /// First lines, names, and the number of fields before the field with the name, or the error.
 const FIRST_LINES: &[(&[u8], &str, Result<usize, ColumnError>)] = &[

@@ -1,5 +1,0 @@
-use Rattle.ixdtf_c.proofs.encodings.Utf16Printers.print_duration.Goals as goal
-use Rattle.ixdtf_c.proofs.Printed.{prints_wide}
-
-pub returns-clause-prints : goal.returns-clause-prints
-returns-clause-prints c = prints_wide c.print_duration_utf16.ensures.prints c.print_duration_utf16.ensures.wide

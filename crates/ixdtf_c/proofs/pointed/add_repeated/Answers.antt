@@ -1,5 +1,0 @@
-use Rattle.ixdtf_c.proofs.pointed.add_repeated.Goals as goal
-use Rattle.ixdtf_c.proofs.Added.{once_more}
-
-pub loop-preserved : goal.loop-preserved
-loop-preserved c = once_more c.args.byte c.loop.counter c.loop.invariant c.add-end.ensures

@@ -1,0 +1,11 @@
+use Rattle.ixdtf_c.proofs.reader_errors.of_duration.Goals as goal
+use Rattle.std.proofs.Common.{◌∙◌}
+use Rattle.ixdtf_c.proofs.Refused.{of_units, itself, part_ok, part_err}
+
+pub returns-in-Ok : goal.returns-in-Ok
+returns-in-Ok g c = rw (← c.with_profile-parser.ensures.profile)
+    (of_units _ _ _ (c.with_profile-parser.ensures.rest ∙ c.new.ensures.rest) (part_ok c.parse_located.ensures.reads itself (λ fault at reason. itself) c.in-Ok.is))
+
+pub returns-in-Err : goal.returns-in-Err
+returns-in-Err g c = rw (← c.with_profile-parser.ensures.profile)
+    (of_units _ _ _ (c.with_profile-parser.ensures.rest ∙ c.new.ensures.rest) (part_err c.parse_located.ensures.reads itself (λ fault at reason. itself) c.in-Err.is))
