@@ -27,7 +27,7 @@ use ixdtf::ParserResult;
 use ixdtf::encoding::Utf8;
 use ixdtf::parsers::{IsoDurationParser, IxdtfParser, Profile, TimeZoneParser};
 use ixdtf::records::{IxdtfParseRecord, TimeZoneRecord};
-use ixdtf_buffers::adding::add_byte;
+use ixdtf_buffers::adding::{ROOM, add_byte};
 use ixdtf_buffers::error::RunError;
 use ixdtf_buffers::output::Output;
 use ixdtf_buffers::sink::Sink;
@@ -35,7 +35,8 @@ use ixdtf_buffers::sink::Sink;
 /// Writes the answer for the text. The word decides which reader reads the text, and what the answer says about the value.
 pub fn answer_text<K: Sink>(
     output: &mut Output<'_, K>,
-    room: &mut [u8; MOST_PRINTED],
+    room: &mut [u8; ROOM],
+    printed: &mut [u8; MOST_PRINTED],
     word: Word,
     text: &[u8],
 ) -> Result<(), RunError>
@@ -43,51 +44,76 @@ pub fn answer_text<K: Sink>(
     ensures { PutsOutcome K.contents K.failed output.old output.new result word text.now }
 {
     match word {
-        Word::Parse => answer_parse(output, text),
-        Word::YearMonth => answer_year_month(output, text),
-        Word::MonthDay => answer_month_day(output, word, Profile::Crate, text),
-        Word::Time => answer_time(output, word, Profile::Crate, text),
-        Word::Offset => answer_offset(output, text),
-        Word::Zone => answer_zone(output, text),
-        Word::Iana => answer_zone_name(output, word, text),
-        Word::Duration => answer_duration(output, word, Profile::Crate, text),
-        Word::StrictMonthDay => answer_month_day(output, word, Profile::Strict, text),
-        Word::StrictTime => answer_time(output, word, Profile::Strict, text),
-        Word::StrictDuration => answer_duration(output, word, Profile::Strict, text),
-        Word::Canonical => put_canonical(output, word, text, canonical_record(text, room), room),
-        Word::Rfc3339 => answer_rfc3339(output, text),
-        Word::ZoneName => answer_zone_name(output, word, text),
-        Word::Rfc9557 => answer_rfc9557(output, text),
+        Word::Parse => answer_parse(output, room, text),
+        Word::YearMonth => answer_year_month(output, room, text),
+        Word::MonthDay => answer_month_day(output, room, word, Profile::Crate, text),
+        Word::Time => answer_time(output, room, word, Profile::Crate, text),
+        Word::Offset => answer_offset(output, room, text),
+        Word::Zone => answer_zone(output, room, text),
+        Word::Iana => answer_zone_name(output, room, word, text),
+        Word::Duration => answer_duration(output, room, word, Profile::Crate, text),
+        Word::StrictMonthDay => answer_month_day(output, room, word, Profile::Strict, text),
+        Word::StrictTime => answer_time(output, room, word, Profile::Strict, text),
+        Word::StrictDuration => answer_duration(output, room, word, Profile::Strict, text),
+        Word::Canonical => put_canonical(
+            output,
+            room,
+            word,
+            text,
+            canonical_record(text, printed),
+            printed,
+        ),
+        Word::Rfc3339 => answer_rfc3339(output, room, text),
+        Word::ZoneName => answer_zone_name(output, room, word, text),
+        Word::Rfc9557 => answer_rfc9557(output, room, text),
         Word::CanonicalOffset => put_canonical(
             output,
+            room,
             word,
             text,
-            canonical_offset(text, room),
-            room,
+            canonical_offset(text, printed),
+            printed,
         ),
-        Word::CanonicalZone => put_canonical(output, word, text, canonical_zone(text, room), room),
+        Word::CanonicalZone => put_canonical(
+            output,
+            room,
+            word,
+            text,
+            canonical_zone(text, printed),
+            printed,
+        ),
         Word::CanonicalDuration => put_canonical(
             output,
+            room,
             word,
             text,
-            canonical_duration(text, room),
-            room,
+            canonical_duration(text, printed),
+            printed,
         ),
-        Word::Instant => answer_instant(output, text),
-        Word::CanonicalTime => put_canonical(output, word, text, canonical_time(text, room), room),
+        Word::Instant => answer_instant(output, room, text),
+        Word::CanonicalTime => put_canonical(
+            output,
+            room,
+            word,
+            text,
+            canonical_time(text, printed),
+            printed,
+        ),
         Word::CanonicalYearMonth => put_canonical(
             output,
+            room,
             word,
             text,
-            canonical_year_month(text, room),
-            room,
+            canonical_year_month(text, printed),
+            printed,
         ),
         Word::CanonicalMonthDay => put_canonical(
             output,
+            room,
             word,
             text,
-            canonical_month_day(text, room),
-            room,
+            canonical_month_day(text, printed),
+            printed,
         ),
     }
 }
@@ -96,6 +122,7 @@ pub fn answer_text<K: Sink>(
 #[inline(always)]
 fn put_found<K: Sink>(
     output: &mut Output<'_, K>,
+    room: &mut [u8; ROOM],
     word: Word,
     text: &[u8],
     outcome: &ParserResult<IxdtfParseRecord<'_, Utf8>>,
@@ -106,33 +133,42 @@ fn put_found<K: Sink>(
     ensures { PutsOutcome K.contents K.failed output.old output.new result word text.now }
 {
     match outcome {
-        Ok(parts) => put_record(output, parts),
-        Err(error) => put_error(output, *error),
+        Ok(parts) => put_record(output, room, parts),
+        Err(error) => put_error(output, room, *error),
     }
 }
 
 /// Writes the answer of `parse`.
 #[inline(never)]
-fn answer_parse<K: Sink>(output: &mut Output<'_, K>, text: &[u8]) -> Result<(), RunError>
+fn answer_parse<K: Sink>(
+    output: &mut Output<'_, K>,
+    room: &mut [u8; ROOM],
+    text: &[u8],
+) -> Result<(), RunError>
     ensures { PutsOutcome K.contents K.failed output.old output.new result Word.Parse text.now }
 {
     let outcome = IxdtfParser::from_utf8(text).parse();
-    put_found(output, Word::Parse, text, &outcome)
+    put_found(output, room, Word::Parse, text, &outcome)
 }
 
 /// Writes the answer of `year-month`.
 #[inline(never)]
-fn answer_year_month<K: Sink>(output: &mut Output<'_, K>, text: &[u8]) -> Result<(), RunError>
+fn answer_year_month<K: Sink>(
+    output: &mut Output<'_, K>,
+    room: &mut [u8; ROOM],
+    text: &[u8],
+) -> Result<(), RunError>
     ensures { PutsOutcome K.contents K.failed output.old output.new result Word.YearMonth text.now }
 {
     let outcome = IxdtfParser::from_utf8(text).parse_year_month();
-    put_found(output, Word::YearMonth, text, &outcome)
+    put_found(output, room, Word::YearMonth, text, &outcome)
 }
 
 /// Writes the answer of `month-day`, or of `strict-month-day`.
 #[inline(never)]
 fn answer_month_day<K: Sink>(
     output: &mut Output<'_, K>,
+    room: &mut [u8; ROOM],
     word: Word,
     profile: Profile,
     text: &[u8],
@@ -142,13 +178,14 @@ fn answer_month_day<K: Sink>(
     ensures { PutsOutcome K.contents K.failed output.old output.new result word text.now }
 {
     let outcome = parser(profile, text).parse_month_day();
-    put_found(output, word, text, &outcome)
+    put_found(output, room, word, text, &outcome)
 }
 
 /// Writes the answer of `time`, or of `strict-time`.
 #[inline(never)]
 fn answer_time<K: Sink>(
     output: &mut Output<'_, K>,
+    room: &mut [u8; ROOM],
     word: Word,
     profile: Profile,
     text: &[u8],
@@ -158,29 +195,37 @@ fn answer_time<K: Sink>(
     ensures { PutsOutcome K.contents K.failed output.old output.new result word text.now }
 {
     let outcome = parser(profile, text).parse_time();
-    put_found(output, word, text, &outcome)
+    put_found(output, room, word, text, &outcome)
 }
 
 /// Writes the answer of `offset`.
 #[inline(never)]
-fn answer_offset<K: Sink>(output: &mut Output<'_, K>, text: &[u8]) -> Result<(), RunError>
+fn answer_offset<K: Sink>(
+    output: &mut Output<'_, K>,
+    room: &mut [u8; ROOM],
+    text: &[u8],
+) -> Result<(), RunError>
     ensures { PutsOutcome K.contents K.failed output.old output.new result Word.Offset text.now }
 {
     match TimeZoneParser::from_utf8(text).parse_offset() {
-        Ok(offset) => put_offset(output, offset),
-        Err(error) => put_error(output, error),
+        Ok(offset) => put_offset(output, room, offset),
+        Err(error) => put_error(output, room, error),
     }
 }
 
 /// Writes the answer of `zone`.
 #[inline(never)]
-fn answer_zone<K: Sink>(output: &mut Output<'_, K>, text: &[u8]) -> Result<(), RunError>
+fn answer_zone<K: Sink>(
+    output: &mut Output<'_, K>,
+    room: &mut [u8; ROOM],
+    text: &[u8],
+) -> Result<(), RunError>
     ensures { PutsOutcome K.contents K.failed output.old output.new result Word.Zone text.now }
 {
     let outcome = TimeZoneParser::from_utf8(text).parse_identifier();
     match &outcome {
-        Ok(zone) => put_zone(output, zone),
-        Err(error) => put_error(output, *error),
+        Ok(zone) => put_zone(output, room, zone),
+        Err(error) => put_error(output, room, *error),
     }
 }
 
@@ -188,6 +233,7 @@ fn answer_zone<K: Sink>(output: &mut Output<'_, K>, text: &[u8]) -> Result<(), R
 #[inline(never)]
 fn answer_zone_name<K: Sink>(
     output: &mut Output<'_, K>,
+    room: &mut [u8; ROOM],
     word: Word,
     text: &[u8],
 ) -> Result<(), RunError>
@@ -196,36 +242,45 @@ fn answer_zone_name<K: Sink>(
     ensures { PutsOutcome K.contents K.failed output.old output.new result word text.now }
 {
     match TimeZoneParser::from_utf8(text).parse_iana_identifier() {
-        Ok(name) => put_zone(output, &TimeZoneRecord::Name(name)),
-        Err(error) => put_error(output, error),
+        Ok(name) => put_zone(output, room, &TimeZoneRecord::Name(name)),
+        Err(error) => put_error(output, room, error),
     }
 }
 
 /// Writes the answer of `rfc3339`.
 #[inline(never)]
-fn answer_rfc3339<K: Sink>(output: &mut Output<'_, K>, text: &[u8]) -> Result<(), RunError>
+fn answer_rfc3339<K: Sink>(
+    output: &mut Output<'_, K>,
+    room: &mut [u8; ROOM],
+    text: &[u8],
+) -> Result<(), RunError>
     ensures { PutsOutcome K.contents K.failed output.old output.new result Word.Rfc3339 text.now }
 {
     let outcome = IxdtfParser::from_utf8(text).parse_rfc3339();
     match &outcome {
-        Ok(date_time) => put_record(output, date_time),
-        Err(error) => put_error(output, *error),
+        Ok(date_time) => put_record(output, room, date_time),
+        Err(error) => put_error(output, room, *error),
     }
 }
 
 /// Writes the answer of `rfc9557`.
 #[inline(never)]
-fn answer_rfc9557<K: Sink>(output: &mut Output<'_, K>, text: &[u8]) -> Result<(), RunError>
+fn answer_rfc9557<K: Sink>(
+    output: &mut Output<'_, K>,
+    room: &mut [u8; ROOM],
+    text: &[u8],
+) -> Result<(), RunError>
     ensures { PutsOutcome K.contents K.failed output.old output.new result Word.Rfc9557 text.now }
 {
     let outcome = IxdtfParser::from_utf8(text).parse_rfc9557();
-    put_found(output, Word::Rfc9557, text, &outcome)
+    put_found(output, room, Word::Rfc9557, text, &outcome)
 }
 
 /// Writes the answer of `duration`, or of `strict-duration`.
 #[inline(never)]
 fn answer_duration<K: Sink>(
     output: &mut Output<'_, K>,
+    room: &mut [u8; ROOM],
     word: Word,
     profile: Profile,
     text: &[u8],
@@ -236,20 +291,24 @@ fn answer_duration<K: Sink>(
 {
     let mut reader = IsoDurationParser::<Utf8>::from_utf8(text).with_profile(profile);
     match reader.parse() {
-        Ok(duration) => put_duration(output, duration),
-        Err(error) => put_error(output, error),
+        Ok(duration) => put_duration(output, room, duration),
+        Err(error) => put_error(output, room, error),
     }
 }
 
 /// Writes the answer of `instant`.
 #[inline(never)]
-fn answer_instant<K: Sink>(output: &mut Output<'_, K>, text: &[u8]) -> Result<(), RunError>
+fn answer_instant<K: Sink>(
+    output: &mut Output<'_, K>,
+    room: &mut [u8; ROOM],
+    text: &[u8],
+) -> Result<(), RunError>
     ensures { PutsOutcome K.contents K.failed output.old output.new result Word.Instant text.now }
 {
     let dated = IxdtfParser::from_utf8(text).parse();
     match &dated {
-        Ok(parts) => put_instant(output, parts),
-        Err(error) => put_error(output, *error),
+        Ok(parts) => put_instant(output, room, parts),
+        Err(error) => put_error(output, room, *error),
     }
 }
 
@@ -257,21 +316,22 @@ fn answer_instant<K: Sink>(output: &mut Output<'_, K>, text: &[u8]) -> Result<()
 #[inline(always)]
 fn put_canonical<K: Sink>(
     output: &mut Output<'_, K>,
+    room: &mut [u8; ROOM],
     word: Word,
     text: &[u8],
-    printed: ParserResult<usize>,
-    room: &mut [u8; MOST_PRINTED],
+    count: ParserResult<usize>,
+    printed: &mut [u8; MOST_PRINTED],
 ) -> Result<(), RunError>
-    requires { IsPrinted word text.now room.old printed }
+    requires { IsPrinted word text.now printed.old count }
     ensures { PutsOutcome K.contents K.failed output.old output.new result word text.now }
 {
-    match printed {
+    match count {
         Ok(count) => {
-            let end = add_byte(room, count, b'\n');
+            let end = add_byte(printed, count, b'\n');
             output.put(b"ok ")?;
-            output.put(&room[..end])
+            output.put(&printed[..end])
         }
-        Err(error) => put_error(output, error),
+        Err(error) => put_error(output, room, error),
     }
 }
 

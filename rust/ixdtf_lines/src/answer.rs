@@ -5,6 +5,7 @@
 use crate::canonical_answers::MOST_PRINTED;
 use crate::reader_answers::answer_text;
 use crate::word::Word;
+use ixdtf_buffers::adding::ROOM;
 use ixdtf_buffers::driver::LineTask;
 use ixdtf_buffers::error::RunError;
 use ixdtf_buffers::output::Output;
@@ -16,15 +17,18 @@ pub const LINE_LIMIT: usize = 4096;
 
 /// The values that the run keeps from one line to the next.
 pub struct Answering {
+    /// The array in which an answer is made. It is kept between lines, because clearing it for each line would take time.
+    room: [u8; ROOM],
     /// An array for canonical texts. It is kept between lines, because clearing it for each line would take longer than filling it.
-    room: [u8; MOST_PRINTED],
+    printed: [u8; MOST_PRINTED],
 }
 
 impl Answering {
     /// Creates the state before the first line.
     pub fn new() -> Answering {
         Answering {
-            room: [0; MOST_PRINTED],
+            room: [0; ROOM],
+            printed: [0; MOST_PRINTED],
         }
     }
 }
@@ -38,7 +42,7 @@ impl LineTask<LINE_LIMIT> for Answering {
     ) -> Result<(), RunError> {
         match line {
             None => put_too_long(output),
-            Some(line) => answer_short(output, &mut self.room, line),
+            Some(line) => answer_short(output, &mut self.room, &mut self.printed, line),
         }
     }
 }
@@ -46,7 +50,8 @@ impl LineTask<LINE_LIMIT> for Answering {
 /// Writes the answer for a line that is not too long.
 fn answer_short<K: Sink>(
     output: &mut Output<'_, K>,
-    room: &mut [u8; MOST_PRINTED],
+    room: &mut [u8; ROOM],
+    printed: &mut [u8; MOST_PRINTED],
     line: &[u8],
 ) -> Result<(), RunError> {
     let Some(place) = place_of(b' ', line) else {
@@ -55,7 +60,7 @@ fn answer_short<K: Sink>(
     let Some(word) = Word::named(&line[..place]) else {
         return put_no_such_reader(output);
     };
-    answer_text(output, room, word, &line[place + 1..])
+    answer_text(output, room, printed, word, &line[place + 1..])
 }
 
 /// Writes the answer for a line that is longer than `LINE_LIMIT`.

@@ -20,13 +20,13 @@ use ixdtf_print::error_parts;
 /// Writes `ok`, each field that the record has, and a newline.
 pub fn put_record<K: Sink>(
     output: &mut Output<'_, K>,
+    room: &mut [u8; ROOM],
     parts: &IxdtfParseRecord<'_, Utf8>,
 ) -> Result<(), RunError> {
-    let mut room = [0; ROOM];
-    let front = add_record_front(&mut room, parts);
+    let front = add_record_front(room, parts);
     let name = zone_field_name(&parts.tz);
     match parts.calendar {
-        None => put_front_and_name(output, &mut room, front, name),
+        None => put_front_and_name(output, room, front, name),
         Some(calendar) => {
             output.put(&room[..front])?;
             put_name_and_calendar(output, name, calendar)
@@ -89,12 +89,12 @@ fn zone_name<'a>(zone: &TimeZoneRecord<'a, Utf8>) -> &'a [u8] {
 /// Writes `ok`, the offset, and a newline.
 pub fn put_offset<K: Sink>(
     output: &mut Output<'_, K>,
+    room: &mut [u8; ROOM],
     offset: UtcOffsetRecord,
 ) -> Result<(), RunError> {
-    let mut room = [0; ROOM];
-    let field = add_bytes(&mut room, 0, b"ok");
-    let front = add_offset(&mut room, field, offset);
-    let end = add_byte(&mut room, front, b'\n');
+    let field = add_bytes(room, 0, b"ok");
+    let front = add_offset(room, field, offset);
+    let end = add_byte(room, front, b'\n');
     output.put(&room[..end])
 }
 
@@ -102,23 +102,23 @@ pub fn put_offset<K: Sink>(
 /// was read without brackets. So the zone is not critical, and the answer has no `!` before the zone.
 pub fn put_zone<K: Sink>(
     output: &mut Output<'_, K>,
+    room: &mut [u8; ROOM],
     zone: &TimeZoneRecord<'_, Utf8>,
 ) -> Result<(), RunError> {
-    let mut room = [0; ROOM];
-    let field = add_bytes(&mut room, 0, b"ok");
-    let front = add_zone_front(&mut room, field, false, zone);
-    put_front_and_name(output, &mut room, front, zone_name(zone))
+    let field = add_bytes(room, 0, b"ok");
+    let front = add_zone_front(room, field, false, zone);
+    put_front_and_name(output, room, front, zone_name(zone))
 }
 
 /// Writes `ok`, the duration, and a newline.
 pub fn put_duration<K: Sink>(
     output: &mut Output<'_, K>,
+    room: &mut [u8; ROOM],
     duration: DurationParseRecord,
 ) -> Result<(), RunError> {
-    let mut room = [0; ROOM];
-    let field = add_bytes(&mut room, 0, b"ok");
-    let front = add_duration(&mut room, field, duration);
-    let end = add_byte(&mut room, front, b'\n');
+    let field = add_bytes(room, 0, b"ok");
+    let front = add_duration(room, field, duration);
+    let end = add_byte(room, front, b'\n');
     output.put(&room[..end])
 }
 
@@ -126,15 +126,15 @@ pub fn put_duration<K: Sink>(
 /// instant` and a newline.
 pub fn put_instant<K: Sink>(
     output: &mut Output<'_, K>,
+    room: &mut [u8; ROOM],
     parts: &IxdtfParseRecord<'_, Utf8>,
 ) -> Result<(), RunError> {
     let Some(instant) = parts.instant() else {
         return output.put(b"error no instant\n");
     };
-    let mut room = [0; ROOM];
-    let field = add_bytes(&mut room, 0, b"ok");
-    let front = add_instant(&mut room, field, instant);
-    let end = add_byte(&mut room, front, b'\n');
+    let field = add_bytes(room, 0, b"ok");
+    let front = add_instant(room, field, instant);
+    let end = add_byte(room, front, b'\n');
     output.put(&room[..end])
 }
 
@@ -143,12 +143,15 @@ pub fn put_instant<K: Sink>(
 /// The text of each error that a reader returns is short. So the answer is made in an array, and one call of `Output::put` appends it
 /// to the output.
 #[inline(never)]
-pub fn put_error<K: Sink>(output: &mut Output<'_, K>, error: ParseError) -> Result<(), RunError> {
-    let mut room = [0; ROOM];
-    let first = add_bytes(&mut room, 0, b"error ");
+pub fn put_error<K: Sink>(
+    output: &mut Output<'_, K>,
+    room: &mut [u8; ROOM],
+    error: ParseError,
+) -> Result<(), RunError> {
+    let first = add_bytes(room, 0, b"error ");
     let (text, location) = error_parts(error);
-    let second = add_bytes(&mut room, first, text.as_bytes());
-    let newline = add_bytes(&mut room, second, location.as_bytes());
-    let end = add_byte(&mut room, newline, b'\n');
+    let second = add_bytes(room, first, text.as_bytes());
+    let newline = add_bytes(room, second, location.as_bytes());
+    let end = add_byte(room, newline, b'\n');
     output.put(&room[..end])
 }
