@@ -9,9 +9,9 @@ use Rattle.ixdtf_grammar.specs.declared.records.{Sign.TheVariants.{Positive, Neg
 use Rattle.ixdtf_grammar.specs.declared.records.UtcOffsetRecordOrZ.{UtcOffsetRecordOrZ}
 use Rattle.ixdtf.specs.language.{Brackets.ZoneNote, Cores.core_of, Fractions.FractionParts, Languages.Parsed, Letters.{Letter, Text, byte_letter, wide_letter}, OffsetRecords.sign_for, Readers.{parse, CoreKind.date_time}}
 use Rattle.ixdtf.specs.{language.ZoneNames.{Zone as SomeZone, Zone.{Name, Offset as ByOffset}}, Handlers.UnhandledRecord, Widths.wide_text}
-use Rattle.ixdtf_c.specs.Crossing.{Contents, DurationContents, digits_for, value_for, is_negative, date_for, time_for, offset_for, area_for, zone_for, units_for, is_there}
-use Rattle.ixdtf_c.specs.{Crossing.record_for, Instants.shift_fraction, Outcomes.GivesRecord, Printing.{HaveDigits, PrintsText, text_where}}
-use Rattle.ixdtf_c.specs.Standing.{where_there, fraction_by, date_by, time_by, minutes_by, offset_by, zone_by, parsed_by, record_by, lasting_by, shift_alone}
+use Rattle.ixdtf_c.specs.Crossing.{Contents, DurationContents, digits_for, value_for, is_negative, date_for, time_for, offset_for, time_zone_for, zone_for, units_for, is_there}
+use Rattle.ixdtf_c.specs.{Crossing.record_for, Instants.offset_fraction, Outcomes.GivesRecord, Printing.{HaveDigits, PrintsText, text_where}}
+use Rattle.ixdtf_c.specs.Standing.{where_there, fraction_by, date_by, time_by, minutes_by, offset_by, zone_by, parsed_by, record_by, lasting_by, utc_offset_in}
 use Rattle.ixdtf_c.proofs.Numbers.{number_some}
 use Rattle.ixdtf_print.specs.{Canonical.canonical_text, Durations.{duration_text, IsPrintableDuration, IsDurationReadBack}, Printable.IsPrintable, Spelled.{HasTime, HasDigits, IsDayTime, IsShift}}
 use Rattle.ixdtf_print.specs.{Times.IsPrintableTime, YearMonths.IsPrintableYearMonth, MonthDays.IsPrintableMonthDay, SpelledCores.{HasLoneTime, HasLoneMonth, HasLoneDay, IsSpelledAs}}
@@ -37,21 +37,21 @@ digits_of_time : (time : Option TimeRecord) → IfSome time IsDayTime → IfSome
 digits_of_time None is = tt
 digits_of_time (Some time) is = is.fraction
 
-digits_of_offset : (offset : Option UtcOffsetRecordOrZ) → IfSome offset IsShift → IfSome offset (λ shift. HasDigits (shift_fraction shift))
+digits_of_offset : (offset : Option UtcOffsetRecordOrZ) → IfSome offset IsShift → IfSome offset (λ shift. HasDigits (offset_fraction shift))
 digits_of_offset None is = tt
 digits_of_offset (Some shifts.Z) is = tt
 digits_of_offset (Some (shifts.Offset (offsets.MinutePrecision it))) is = tt
 digits_of_offset (Some (shifts.Offset (offsets.FullPrecisionOffset it))) is = is.fraction
 
 digits_of_both : (time : Option TimeRecord) (offset : Option UtcOffsetRecordOrZ) → HasTime time offset
-    → IfSome time (λ it. HasDigits it.fraction) × IfSome offset (λ shift. HasDigits (shift_fraction shift))
+    → IfSome time (λ it. HasDigits it.fraction) × IfSome offset (λ shift. HasDigits (offset_fraction shift))
 digits_of_both time offset has = (digits_of_time time (time_of_both time offset has), digits_of_offset offset (offset_of_both time offset has))
 
 -- If a struct stands for a record with valid fractions, its time and its offset have valid fractions, and the form of its zone has a
 -- meaning.
 module _ (r : Contents) where
   counted_parts : (offset : Option (Option UtcOffsetRecordOrZ)) (zone : Option (Option ZoneNote)) → IsSomeAnd (parsed_by r offset zone) HaveDigits
-      → IfSome (time_by r.time) (λ it. HasDigits it.fraction) × IsSomeAnd offset (λ it. IfSome it (λ shift. HasDigits (shift_fraction shift))) × (zone ≢ None)
+      → IfSome (time_by r.time) (λ it. HasDigits it.fraction) × IsSomeAnd offset (λ it. IfSome it (λ shift. HasDigits (offset_fraction shift))) × (zone ≢ None)
   counted_parts (Some offset) (Some it) is = (is.0, is.1, λ none. cc)
   counted_parts (Some _) None is = absurd is
   counted_parts None (Some _) is = absurd is
@@ -60,7 +60,7 @@ module _ (r : Contents) where
   pub counted_time : IsSomeAnd (record_by r) HaveDigits → IfSome (time_by r.time) (λ it. HasDigits it.fraction)
   counted_time is = (counted_parts (offset_by r.offset) (zone_by r.zone) is).0
 
-  pub counted_offset : IsSomeAnd (record_by r) HaveDigits → IsSomeAnd (offset_by r.offset) (λ it. IfSome it (λ shift. HasDigits (shift_fraction shift)))
+  pub counted_offset : IsSomeAnd (record_by r) HaveDigits → IsSomeAnd (offset_by r.offset) (λ it. IfSome it (λ shift. HasDigits (offset_fraction shift)))
   counted_offset is = (counted_parts (offset_by r.offset) (zone_by r.zone) is).1
 
   pub counted_zone : IsSomeAnd (record_by r) HaveDigits → zone_by r.zone ≢ None
@@ -92,7 +92,7 @@ not_spelled has_core found tests digits none is =
     true≢false (sym ((tests ((λ no. absurd (true≢false (sym no))), λ s. absurd (none (digits s.0)))).1 is))
 
 digits_of_lone_time : (date : Option DateRecord) (time : Option TimeRecord) (offset : Option UtcOffsetRecordOrZ) → HasLoneTime date time offset
-    → IfSome time (λ it. HasDigits it.fraction) × IfSome offset (λ shift. HasDigits (shift_fraction shift))
+    → IfSome time (λ it. HasDigits it.fraction) × IfSome offset (λ shift. HasDigits (offset_fraction shift))
 digits_of_lone_time None None offset has = absurd has
 digits_of_lone_time None (Some time) offset has = digits_of_both (Some time) offset has
 digits_of_lone_time (Some date) time offset has = absurd has
@@ -158,7 +158,7 @@ zone_back : (zone : Option ZoneNote) → zone_by (zone_for zone) ≡ Some zone
 zone_back None = refl
 zone_back (Some it) = of it.critical it.zone
   where
-    of : (critical : Bool) (zone : SomeZone) → zone_by (area_for critical zone) ≡ Some (Some (record { critical = critical; zone = zone }))
+    of : (critical : Bool) (zone : SomeZone) → zone_by (time_zone_for critical zone) ≡ Some (Some (record { critical = critical; zone = zone }))
     of critical (Name units) = refl
     of critical (ByOffset it) = λ i. Some (Some (record { critical = critical; zone = ByOffset (minutes_back it i) }))
 
@@ -267,8 +267,8 @@ read_is_duration duration (Ok n) back = (duration_text duration, (back Crate).sa
 read_is_duration duration (Err e) back = tt
 
 -- If an offset is printable, its fraction is valid.
-pub printed_shift : (offset : Option (Option UtcOffsetRecordOrZ)) → IsSomeAnd (shift_alone offset) IsPrintableOffset
-    → IsSomeAnd offset (λ it. IfSome it (λ shift. HasDigits (shift_fraction shift)))
+pub printed_shift : (offset : Option (Option UtcOffsetRecordOrZ)) → IsSomeAnd (utc_offset_in offset) IsPrintableOffset
+    → IsSomeAnd offset (λ it. IfSome it (λ shift. HasDigits (offset_fraction shift)))
 printed_shift (Some (Some (shifts.Offset it))) is = digits_of_offset (Some (shifts.Offset it)) ((printable_offset it).0 is)
 printed_shift (Some (Some shifts.Z)) is = absurd is
 printed_shift (Some None) is = absurd is

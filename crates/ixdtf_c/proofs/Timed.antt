@@ -4,14 +4,14 @@ use Rattle.ixdtf_grammar.specs.declared.records.IxdtfParseRecord.{IxdtfParseReco
 use Rattle.ixdtf_instants.specs.declared.instant.Instant.{Instant}
 use Rattle.ixdtf.specs.Instants.{IsInstantOf}
 use Rattle.ixdtf_c.specs.declared.part_structs.{Date.Date, Time.Time, Offset.Offset}
-use Rattle.ixdtf_c.specs.{Standing.{date_by, time_by, offset_by}, Instants.{AreInstant, shift_fraction}}
+use Rattle.ixdtf_c.specs.{Standing.{date_by, time_by, offset_by}, Instants.{AreInstant, offset_fraction}}
 use Rattle.ixdtf_print.specs.Spelled.{HasDigits}
 
 -- The structs of a date, a time and an offset stand for the parts of the record, and their fractions are valid (`HasDigits`).
 module _ {T U : Type 0} (r : IxdtfParseRecord T U) (d : Date) (t : Time) (o : Offset)
     (date : r.date ≡ date_by d) (time : r.time ≡ time_by t) (offset : offset_by o ≡ Some r.offset)
     (digits : IfSome (time_by t) (λ it. HasDigits it.fraction))
-    (offset_digits : IsSomeAnd (offset_by o) (λ it. IfSome it (λ shift. HasDigits (shift_fraction shift)))) where
+    (offset_digits : IsSomeAnd (offset_by o) (λ it. IfSome it (λ shift. HasDigits (offset_fraction shift)))) where
   one_instant : (instant : Instant) → IsInstantOf r instant → AreInstant d t o instant.seconds instant.nanoseconds
   one_instant instant is =
       let has_time : time_by t ≡ Some is.has.time = sym time ∙ is.has.has_time in

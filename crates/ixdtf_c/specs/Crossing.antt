@@ -83,8 +83,8 @@ abbrev pub offset_of_form : ℕ → Offset
 offset_of_form form = record { fraction = 0; fraction_digits = 0; form = form; is_negative = false; hour = 0; minute = 0; second = 0 }
 
 -- Form 2 has hours and minutes. Form 3 has hours, minutes and seconds.
-abbrev pub shift_for : UtcOffsetRecord → Offset
-shift_for (offsets.MinutePrecision it) = record {
+abbrev pub utc_offset_for : UtcOffsetRecord → Offset
+utc_offset_for (offsets.MinutePrecision it) = record {
   fraction = 0;
   fraction_digits = 0;
   form = 2;
@@ -93,7 +93,7 @@ shift_for (offsets.MinutePrecision it) = record {
   minute = it.minute;
   second = 0;
 }
-shift_for (offsets.FullPrecisionOffset it) = record {
+utc_offset_for (offsets.FullPrecisionOffset it) = record {
   fraction = value_for it.fraction;
   fraction_digits = digits_for it.fraction;
   form = 3;
@@ -107,12 +107,12 @@ shift_for (offsets.FullPrecisionOffset it) = record {
 abbrev pub offset_for : Option UtcOffsetRecordOrZ → Offset
 offset_for None = offset_of_form 0
 offset_for (Some shifts.Z) = offset_of_form 1
-offset_for (Some (shifts.Offset it)) = shift_for it
+offset_for (Some (shifts.Offset it)) = utc_offset_for it
 
 -- Form 1 is a zone that is a name. Form 2 is a zone that is an offset.
-abbrev pub area_for : Bool → SomeZone → ZoneContents
-area_for critical (Name units) = record { name = units; form = 1; is_critical = critical; is_negative = false; hour = 0; minute = 0 }
-area_for critical (ByOffset it) = record {
+abbrev pub time_zone_for : Bool → SomeZone → ZoneContents
+time_zone_for critical (Name units) = record { name = units; form = 1; is_critical = critical; is_negative = false; hour = 0; minute = 0 }
+time_zone_for critical (ByOffset it) = record {
   name = [];
   form = 2;
   is_critical = critical;
@@ -124,7 +124,7 @@ area_for critical (ByOffset it) = record {
 -- Form 0 means that there is no zone.
 abbrev pub zone_for : Option ZoneNote → ZoneContents
 zone_for None = record { name = []; form = 0; is_critical = false; is_negative = false; hour = 0; minute = 0 }
-zone_for (Some it) = area_for it.critical it.zone
+zone_for (Some it) = time_zone_for it.critical it.zone
 
 abbrev pub units_for : Option (List ℕ) → List ℕ
 units_for None = []

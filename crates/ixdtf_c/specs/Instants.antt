@@ -9,9 +9,9 @@ use Rattle.ixdtf_c.specs.{declared.part_structs.{Date.Date, Time.Time, Offset.Of
 use Rattle.ixdtf_print.specs.Spelled.{HasDigits}
 
 -- The fraction of an offset, or `None` if it has no fraction.
-abbrev pub shift_fraction : UtcOffsetRecordOrZ → Option FractionParts
-shift_fraction shifts.Z = None
-shift_fraction (shifts.Offset offset) = fraction_of_offset offset
+abbrev pub offset_fraction : UtcOffsetRecordOrZ → Option FractionParts
+offset_fraction shifts.Z = None
+offset_fraction (shifts.Offset offset) = fraction_of_offset offset
 
 -- There is a date, a time, and an offset or `Z`. The month is 1 to 12, and each fraction is valid (`HasDigits`). A day, an hour, a
 -- minute or a second may be out of range. `instant_count` says how it is counted.
@@ -24,7 +24,7 @@ pub record HaveInstant (d : Date) (t : Time) (o : Offset) : Type 0 where
   pub has_offset : offset_by o ≡ Some (Some offset)
   pub month : IsMonth date.month
   pub digits : HasDigits time.fraction
-  pub offset_digits : HasDigits (shift_fraction offset)
+  pub offset_digits : HasDigits (offset_fraction offset)
 
 abbrev pub HasInstant : Contents → Type 0
 HasInstant r = HaveInstant r.date r.time r.offset

@@ -2,12 +2,12 @@
 use Rattle.std.specs.Prelude.{◌≡◌, ◌≢◌, ◌↔◌, ℕ, ◌≤◌, ◌<◌, ◌^◌, ◌-◌, List, [], Option, Some, None, IfSome, length, map, min, take, drop}
 use Rattle.std.specs.Prelude.{Result, Err, IfOk, OnErr}
 use Rattle.ixdtf.specs.language.{Letters.{Letter, Text}, Languages.Parsed}
-use Rattle.ixdtf_c.specs.Instants.{shift_fraction}
+use Rattle.ixdtf_c.specs.Instants.{offset_fraction}
 use Rattle.ixdtf_print.specs.{Spelled.HasDigits, declared.error.PrintError.{PrintError, TheVariants.{NotPrintable, TooShort}}}
 
 -- The fractions of the time and of the offset, if they are present, are valid (`HasDigits`).
 abbrev pub HaveDigits : Parsed → Type 0
-HaveDigits found = IfSome found.time (λ it. HasDigits it.fraction) × IfSome found.offset (λ shift. HasDigits (shift_fraction shift))
+HaveDigits found = IfSome found.time (λ it. HasDigits it.fraction) × IfSome found.offset (λ shift. HasDigits (offset_fraction shift))
 
 -- The text of a value, or the empty text if the value is absent.
 abbrev pub text_where : {R : Type 0} → (R → Text) → Option R → Text

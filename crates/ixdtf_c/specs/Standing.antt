@@ -8,7 +8,7 @@ use Rattle.ixdtf_grammar.specs.declared.records.{DateRecord.DateRecord, TimeReco
 use Rattle.ixdtf_grammar.specs.declared.records.{DateDurationRecord.DateDurationRecord, DurationParseRecord.DurationParseRecord}
 use Rattle.ixdtf_grammar.specs.declared.records.{TimeDurationRecord.TimeDurationRecord, UtcOffsetRecord.UtcOffsetRecord, UtcOffsetRecordOrZ.UtcOffsetRecordOrZ}
 use Rattle.ixdtf.specs.language.{Brackets.ZoneNote, Fractions.FractionParts, Languages.Parsed, OffsetRecords.sign_for}
-use Rattle.ixdtf.specs.language.ZoneNames.{Zone as Area, Zone.{Name, Offset as ByOffset}}
+use Rattle.ixdtf.specs.language.ZoneNames.{Zone as TimeZone, Zone.{Name, Offset as ByOffset}}
 use Rattle.ixdtf_c.specs.{declared.part_structs.{Date.Date, Time.Time, Offset.Offset}, Crossing.{Contents, ZoneContents, DurationContents}}
 
 -- The value if it is present, and otherwise `None`.
@@ -69,23 +69,23 @@ abbrev pub record_by : Contents → Option Parsed
 record_by r = parsed_by r (offset_by r.offset) (zone_by r.zone)
 
 -- The offset, if it is present and is not `Z`.
-abbrev pub shift_alone : Option (Option UtcOffsetRecordOrZ) → Option UtcOffsetRecord
-shift_alone (Some (Some (shifts.Offset it))) = Some it
-shift_alone (Some (Some shifts.Z)) = None
-shift_alone (Some None) = None
-shift_alone None = None
+abbrev pub utc_offset_in : Option (Option UtcOffsetRecordOrZ) → Option UtcOffsetRecord
+utc_offset_in (Some (Some (shifts.Offset it))) = Some it
+utc_offset_in (Some (Some shifts.Z)) = None
+utc_offset_in (Some None) = None
+utc_offset_in None = None
 
-abbrev pub shift_by : Offset → Option UtcOffsetRecord
-shift_by o = shift_alone (offset_by o)
+abbrev pub utc_offset_by : Offset → Option UtcOffsetRecord
+utc_offset_by o = utc_offset_in (offset_by o)
 
 -- The zone, if it is present. Whether it is critical is dropped.
-abbrev pub area_alone : Option (Option ZoneNote) → Option Area
-area_alone (Some (Some note)) = Some note.zone
-area_alone (Some None) = None
-area_alone None = None
+abbrev pub time_zone_in : Option (Option ZoneNote) → Option TimeZone
+time_zone_in (Some (Some note)) = Some note.zone
+time_zone_in (Some None) = None
+time_zone_in None = None
 
-abbrev pub area_by : ZoneContents → Option Area
-area_by z = area_alone (zone_by z)
+abbrev pub time_zone_by : ZoneContents → Option TimeZone
+time_zone_by z = time_zone_in (zone_by z)
 
 -- The code units if they are present, and otherwise the empty list.
 abbrev pub units_where : Bool → List ℕ → List ℕ

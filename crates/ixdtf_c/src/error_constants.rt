@@ -1,4 +1,5 @@
-//! The names of the numbers that functions return. They are the names in the C header.
+//! The function for C that returns the name of a constant: the C header has a constant, such as `IXDTF_OK`, for each number
+//! that a reader returns.
 
 ghost use Rattle.std.specs.Prelude.{◌≡◌, ◌++◌, ◌∷◌, []};
 ghost use Rattle.ixdtf_c.specs.Names.{name_of};

@@ -1,5 +1,5 @@
-//! The readers that the C header declares, for 8-bit text and for 16-bit text, and the functions that check replies. Each
-//! function only calls a function of another module, which does the work.
+//! The functions for C that read texts, for 8-bit text and for 16-bit text, with and without a list of annotations, and the
+//! functions that check replies. Each function only calls a function of another module, which does the work.
 //!
 //! These clauses are in the contracts of the readers:
 //!

@@ -6,7 +6,7 @@ ghost use Rattle.ixdtf.specs.language.Letters.{byte_letter};
 ghost use Rattle.ixdtf_c.specs.Lasting.{contents as duration_contents};
 ghost use Rattle.ixdtf_c.specs.Narrow.{contents, zone_contents};
 ghost use Rattle.ixdtf_c.specs.Printing.{GivesText, text_where};
-ghost use Rattle.ixdtf_c.specs.Standing.{duration_by, shift_by, area_by, record_by};
+ghost use Rattle.ixdtf_c.specs.Standing.{duration_by, utc_offset_by, time_zone_by, record_by};
 ghost use Rattle.ixdtf_print.specs.Canonical.{canonical_text, zone_text};
 ghost use Rattle.ixdtf_print.specs.Durations.{duration_text, IsPrintableDuration, IsDurationReadBack};
 ghost use Rattle.ixdtf_print.specs.MonthDays.{month_day_text, IsPrintableMonthDay, IsMonthDayReadBack};
@@ -94,9 +94,9 @@ pub extern "C" fn ixdtf_printed_duration_length(given: &Duration<'_>) -> usize
 /// length of the text.
 #[unsafe(no_mangle)]
 pub extern "C" fn ixdtf_print_offset(given: &Offset, out: &mut [u8], count: &mut usize) -> u32
-    ensures prints { GivesText byte_letter (IsSomeAnd (shift_by given.now) IsPrintableOffset)
-        (text_where utc_offset_text (shift_by given.now)) out.old out.new count.old count.new result }
-    ensures read_back { result ≡ 0 → IsSomeAnd (shift_by given.now) IsOffsetReadBack }
+    ensures prints { GivesText byte_letter (IsSomeAnd (utc_offset_by given.now) IsPrintableOffset)
+        (text_where utc_offset_text (utc_offset_by given.now)) out.old out.new count.old count.new result }
+    ensures read_back { result ≡ 0 → IsSomeAnd (utc_offset_by given.now) IsOffsetReadBack }
 {
     print_into::<Utf8, _>(given, out, count)
 }
@@ -106,11 +106,11 @@ pub extern "C" fn ixdtf_print_offset(given: &Offset, out: &mut [u8], count: &mut
 /// Returns 0 if the offset cannot be printed. No offset has a text that is longer than `usize::MAX`.
 #[unsafe(no_mangle)]
 pub extern "C" fn ixdtf_printed_offset_length(given: &Offset) -> usize
-    ensures length { IsSomeAnd (shift_by given.now) IsPrintableOffset →
-        length (text_where utc_offset_text (shift_by given.now)) ≤ usize.MAX →
-        result ≡ length (text_where utc_offset_text (shift_by given.now)) }
-    ensures none { ¬ (IsSomeAnd (shift_by given.now) IsPrintableOffset ×
-        (length (text_where utc_offset_text (shift_by given.now)) ≤ usize.MAX)) → result ≡ 0 }
+    ensures length { IsSomeAnd (utc_offset_by given.now) IsPrintableOffset →
+        length (text_where utc_offset_text (utc_offset_by given.now)) ≤ usize.MAX →
+        result ≡ length (text_where utc_offset_text (utc_offset_by given.now)) }
+    ensures none { ¬ (IsSomeAnd (utc_offset_by given.now) IsPrintableOffset ×
+        (length (text_where utc_offset_text (utc_offset_by given.now)) ≤ usize.MAX)) → result ≡ 0 }
 {
     length_into::<Utf8, _>(given)
 }
@@ -122,9 +122,9 @@ pub extern "C" fn ixdtf_printed_offset_length(given: &Offset) -> usize
 /// `count` is the length of the text. `is_critical` does not matter.
 #[unsafe(no_mangle)]
 pub extern "C" fn ixdtf_print_zone(given: &Zone<'_>, out: &mut [u8], count: &mut usize) -> u32
-    ensures prints { GivesText byte_letter (IsSomeAnd (area_by (zone_contents given.now)) IsPrintableZone)
-        (text_where zone_text (area_by (zone_contents given.now))) out.old out.new count.old count.new result }
-    ensures read_back { result ≡ 0 → IsSomeAnd (area_by (zone_contents given.now)) IsZoneReadBack }
+    ensures prints { GivesText byte_letter (IsSomeAnd (time_zone_by (zone_contents given.now)) IsPrintableZone)
+        (text_where zone_text (time_zone_by (zone_contents given.now))) out.old out.new count.old count.new result }
+    ensures read_back { result ≡ 0 → IsSomeAnd (time_zone_by (zone_contents given.now)) IsZoneReadBack }
 {
     print_into::<Utf8, _>(&AsZone { zone: given }, out, count)
 }
@@ -134,11 +134,11 @@ pub extern "C" fn ixdtf_print_zone(given: &Zone<'_>, out: &mut [u8], count: &mut
 /// Returns 0 if the zone cannot be printed. No zone has a text that is longer than `usize::MAX`.
 #[unsafe(no_mangle)]
 pub extern "C" fn ixdtf_printed_zone_length(given: &Zone<'_>) -> usize
-    ensures length { IsSomeAnd (area_by (zone_contents given.now)) IsPrintableZone →
-        length (text_where zone_text (area_by (zone_contents given.now))) ≤ usize.MAX →
-        result ≡ length (text_where zone_text (area_by (zone_contents given.now))) }
-    ensures none { ¬ (IsSomeAnd (area_by (zone_contents given.now)) IsPrintableZone ×
-        (length (text_where zone_text (area_by (zone_contents given.now))) ≤ usize.MAX)) → result ≡ 0 }
+    ensures length { IsSomeAnd (time_zone_by (zone_contents given.now)) IsPrintableZone →
+        length (text_where zone_text (time_zone_by (zone_contents given.now))) ≤ usize.MAX →
+        result ≡ length (text_where zone_text (time_zone_by (zone_contents given.now))) }
+    ensures none { ¬ (IsSomeAnd (time_zone_by (zone_contents given.now)) IsPrintableZone ×
+        (length (text_where zone_text (time_zone_by (zone_contents given.now))) ≤ usize.MAX)) → result ≡ 0 }
 {
     length_into::<Utf8, _>(&AsZone { zone: given })
 }

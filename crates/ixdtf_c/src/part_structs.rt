@@ -1,7 +1,7 @@
 //! The structs of dates, times and offsets that are passed between C and Rust.
 
 ghost use Rattle.std.specs.Prelude.{◌≡◌};
-ghost use Rattle.ixdtf_c.specs.Crossing.{digits_for, value_for, date_for, time_for, offset_of_form, shift_for, offset_for};
+ghost use Rattle.ixdtf_c.specs.Crossing.{digits_for, value_for, date_for, time_for, offset_of_form, utc_offset_for, offset_for};
 ghost use Rattle.ixdtf_c.specs.Crossing.{is_negative as has_minus};
 
 use ixdtf::records::{DateRecord, Fraction, Sign, TimeRecord, UtcOffsetRecord, UtcOffsetRecordOrZ};
@@ -182,7 +182,7 @@ impl Offset {
     /// Writes an offset that is not `Z` to `self`.
     #[inline(always)]
     pub(crate) fn put_shift(&mut self, offset: UtcOffsetRecord)
-        ensures { self.new ≡ shift_for offset }
+        ensures { self.new ≡ utc_offset_for offset }
     {
         match offset {
             UtcOffsetRecord::MinutePrecision(it) => {

@@ -1,4 +1,5 @@
-//! The readers and the check of replies, for 8-bit and for 16-bit text.
+//! What the functions of `exports` do: read a text with a reader of the library, and write the result into the struct of the
+//! caller. The functions are generic, for 8-bit and for 16-bit text. The check of replies is here too.
 
 ghost use Rattle.std.specs.Prelude.{◌≡◌, ◌≢◌, Result, map, option_map};
 ghost use Rattle.ixdtf.specs.Views.{parsed_of, note_of};

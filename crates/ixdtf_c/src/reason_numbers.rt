@@ -1,4 +1,4 @@
-//! The numbers and the names of the reasons why a reader refuses a text.
+//! The numbers and the names that the reasons of the library have in C.
 
 ghost use Rattle.std.specs.Prelude.{◌≡◌, ◌≢◌, ◌≤◌, ◌++◌, ◌∷◌, [], IfSome, IfNone};
 ghost use Rattle.ixdtf_grammar.specs.declared.reason.Reason.{Reason as AnyReason};

@@ -2,7 +2,7 @@
 
 ghost use Rattle.std.specs.Prelude.{◌≡◌, Some, None, map, option_map, IfSome, IfNone, OnSome, IsSomeAnd};
 ghost use Rattle.ixdtf.specs.Views.{parsed_of, note_of};
-ghost use Rattle.ixdtf_c.specs.Instants.{shift_fraction};
+ghost use Rattle.ixdtf_c.specs.Instants.{offset_fraction};
 ghost use Rattle.ixdtf_c.specs.Printing.{HaveDigits};
 ghost use Rattle.ixdtf_c.specs.Standing.{fraction_by, date_by, time_by, minutes_by, offset_by, zone_by, record_by};
 ghost use Rattle.ixdtf_print.specs.Printable.{IsPrintable};
@@ -86,9 +86,9 @@ fn minutes_of(is_negative: bool, hour: u8, minute: u8) -> MinutePrecisionOffset
 pub fn offset_of(offset: &Offset) -> Option<Option<UtcOffsetRecordOrZ>>
     ensures found { IfSome result (λ found. offset_by offset.now ≡ Some found) }
     ensures digits { OnSome result
-        (IsSomeAnd (offset_by offset.now) (λ it. IfSome it (λ shift. HasDigits (shift_fraction shift)))) }
+        (IsSomeAnd (offset_by offset.now) (λ it. IfSome it (λ shift. HasDigits (offset_fraction shift)))) }
     ensures none { IfNone result
-        (¬ (IsSomeAnd (offset_by offset.now) (λ it. IfSome it (λ shift. HasDigits (shift_fraction shift))))) }
+        (¬ (IsSomeAnd (offset_by offset.now) (λ it. IfSome it (λ shift. HasDigits (offset_fraction shift))))) }
 {
     if offset.form == 0 {
         return Some(None);

@@ -5,7 +5,7 @@ ghost use Rattle.std.specs.Prelude.{◌≡◌, ◌≤◌, length, None, IfSome, 
 ghost use Rattle.ixdtf.specs.language.Letters.{Text};
 ghost use Rattle.ixdtf_c.specs.Lasting.{contents as duration_contents};
 ghost use Rattle.ixdtf_c.specs.Printing.{GivesText, PrintsText, text_where};
-ghost use Rattle.ixdtf_c.specs.Standing.{duration_by, shift_by, area_by, record_by};
+ghost use Rattle.ixdtf_c.specs.Standing.{duration_by, utc_offset_by, time_zone_by, record_by};
 ghost use Rattle.ixdtf_print.specs.Canonical.{canonical_text, zone_text};
 ghost use Rattle.ixdtf_print.specs.Durations.{duration_text, IsPrintableDuration, IsDurationReadBack};
 ghost use Rattle.ixdtf_print.specs.MonthDays.{month_day_text, IsPrintableMonthDay, IsMonthDayReadBack};
@@ -17,7 +17,7 @@ ghost use Rattle.ixdtf_print.specs.Zones.{IsPrintableZone, IsZoneReadBack};
 
 use crate::duration_conversion::duration_of;
 use crate::duration_struct::Duration;
-use crate::part_conversion::{area_of, shift_of};
+use crate::part_conversion::{time_zone_of, utc_offset_of};
 use crate::part_structs::Offset;
 use crate::printer_trait::Printers;
 use crate::record_conversion::record_of;
@@ -113,15 +113,15 @@ impl<'a, T: Printers> HasText<T> for Duration<'a> {
 }
 
 impl<T: Printers> HasText<T> for Offset {
-    ghost printable = { λ given. IsSomeAnd (shift_by given) IsPrintableOffset };
+    ghost printable = { λ given. IsSomeAnd (utc_offset_by given) IsPrintableOffset };
 
-    ghost canonical = { λ given. text_where utc_offset_text (shift_by given) };
+    ghost canonical = { λ given. text_where utc_offset_text (utc_offset_by given) };
 
-    ghost reads_back = { λ given. IsSomeAnd (shift_by given) IsOffsetReadBack };
+    ghost reads_back = { λ given. IsSomeAnd (utc_offset_by given) IsOffsetReadBack };
 
     #[inline(always)]
     fn print(&self, out: &mut [T::CodeUnit]) -> Result<usize, PrintError> {
-        match shift_of(self) {
+        match utc_offset_of(self) {
             None => Err(PrintError::NotPrintable),
             Some(found) => T::print_offset(&found, out),
         }
@@ -129,7 +129,7 @@ impl<T: Printers> HasText<T> for Offset {
 
     #[inline(always)]
     fn needs(&self) -> Option<usize> {
-        match shift_of(self) {
+        match utc_offset_of(self) {
             None => None,
             Some(found) => offset_length(&found),
         }
@@ -140,15 +140,15 @@ impl<'a, T: Printers, Z: ZoneOf<'a, T>> HasText<T> for AsZone<'a, Z>
 where
     T::CodeUnit: 'a,
 {
-    ghost printable = { λ given. IsSomeAnd (area_by (Z.contents given.zone.now)) IsPrintableZone };
+    ghost printable = { λ given. IsSomeAnd (time_zone_by (Z.contents given.zone.now)) IsPrintableZone };
 
-    ghost canonical = { λ given. text_where zone_text (area_by (Z.contents given.zone.now)) };
+    ghost canonical = { λ given. text_where zone_text (time_zone_by (Z.contents given.zone.now)) };
 
-    ghost reads_back = { λ given. IsSomeAnd (area_by (Z.contents given.zone.now)) IsZoneReadBack };
+    ghost reads_back = { λ given. IsSomeAnd (time_zone_by (Z.contents given.zone.now)) IsZoneReadBack };
 
     #[inline(always)]
     fn print(&self, out: &mut [T::CodeUnit]) -> Result<usize, PrintError> {
-        match area_of(self.zone) {
+        match time_zone_of(self.zone) {
             None => Err(PrintError::NotPrintable),
             Some(found) => T::print_zone(&found, out),
         }
@@ -156,7 +156,7 @@ where
 
     #[inline(always)]
     fn needs(&self) -> Option<usize> {
-        match area_of(self.zone) {
+        match time_zone_of(self.zone) {
             None => None,
             Some(found) => T::zone_length(&found),
         }

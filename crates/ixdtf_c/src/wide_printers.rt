@@ -4,7 +4,7 @@ ghost use Rattle.std.specs.Prelude.{◌≡◌, ◌≤◌, length, IsSomeAnd};
 ghost use Rattle.ixdtf.specs.language.Letters.{wide_letter};
 ghost use Rattle.ixdtf_c.specs.Lasting.{contents as duration_contents};
 ghost use Rattle.ixdtf_c.specs.Printing.{GivesText, text_where};
-ghost use Rattle.ixdtf_c.specs.Standing.{duration_by, shift_by, area_by, record_by};
+ghost use Rattle.ixdtf_c.specs.Standing.{duration_by, utc_offset_by, time_zone_by, record_by};
 ghost use Rattle.ixdtf_c.specs.Wide.{contents, zone_contents};
 ghost use Rattle.ixdtf_print.specs.Canonical.{canonical_text, zone_text};
 ghost use Rattle.ixdtf_print.specs.Durations.{duration_text, IsPrintableDuration, IsDurationReadBack};
@@ -151,9 +151,9 @@ pub extern "C" fn ixdtf16_printed_month_day_length(given: &Record<'_>) -> usize
 /// Then `count` is the length of the text. `is_critical` does not matter.
 #[unsafe(no_mangle)]
 pub extern "C" fn ixdtf16_print_zone(given: &Zone<'_>, out: &mut [u16], count: &mut usize) -> u32
-    ensures prints { GivesText wide_letter (IsSomeAnd (area_by (zone_contents given.now)) IsPrintableZone)
-        (text_where zone_text (area_by (zone_contents given.now))) out.old out.new count.old count.new result }
-    ensures read_back { result ≡ 0 → IsSomeAnd (area_by (zone_contents given.now)) IsZoneReadBack }
+    ensures prints { GivesText wide_letter (IsSomeAnd (time_zone_by (zone_contents given.now)) IsPrintableZone)
+        (text_where zone_text (time_zone_by (zone_contents given.now))) out.old out.new count.old count.new result }
+    ensures read_back { result ≡ 0 → IsSomeAnd (time_zone_by (zone_contents given.now)) IsZoneReadBack }
 {
     print_into::<Utf16, _>(&AsZone { zone: given }, out, count)
 }
@@ -163,11 +163,11 @@ pub extern "C" fn ixdtf16_print_zone(given: &Zone<'_>, out: &mut [u16], count: &
 /// Returns 0 if the zone cannot be printed. No zone has a text that is longer than `usize::MAX`.
 #[unsafe(no_mangle)]
 pub extern "C" fn ixdtf16_printed_zone_length(given: &Zone<'_>) -> usize
-    ensures length { IsSomeAnd (area_by (zone_contents given.now)) IsPrintableZone →
-        length (text_where zone_text (area_by (zone_contents given.now))) ≤ usize.MAX →
-        result ≡ length (text_where zone_text (area_by (zone_contents given.now))) }
-    ensures none { ¬ (IsSomeAnd (area_by (zone_contents given.now)) IsPrintableZone ×
-        (length (text_where zone_text (area_by (zone_contents given.now))) ≤ usize.MAX)) → result ≡ 0 }
+    ensures length { IsSomeAnd (time_zone_by (zone_contents given.now)) IsPrintableZone →
+        length (text_where zone_text (time_zone_by (zone_contents given.now))) ≤ usize.MAX →
+        result ≡ length (text_where zone_text (time_zone_by (zone_contents given.now))) }
+    ensures none { ¬ (IsSomeAnd (time_zone_by (zone_contents given.now)) IsPrintableZone ×
+        (length (text_where zone_text (time_zone_by (zone_contents given.now))) ≤ usize.MAX)) → result ≡ 0 }
 {
     length_into::<Utf16, _>(&AsZone { zone: given })
 }
@@ -197,9 +197,9 @@ pub extern "C" fn ixdtf16_print_duration(
 /// the length of the text.
 #[unsafe(no_mangle)]
 pub extern "C" fn ixdtf16_print_offset(given: &Offset, out: &mut [u16], count: &mut usize) -> u32
-    ensures prints { GivesText wide_letter (IsSomeAnd (shift_by given.now) IsPrintableOffset)
-        (text_where utc_offset_text (shift_by given.now)) out.old out.new count.old count.new result }
-    ensures read_back { result ≡ 0 → IsSomeAnd (shift_by given.now) IsOffsetReadBack }
+    ensures prints { GivesText wide_letter (IsSomeAnd (utc_offset_by given.now) IsPrintableOffset)
+        (text_where utc_offset_text (utc_offset_by given.now)) out.old out.new count.old count.new result }
+    ensures read_back { result ≡ 0 → IsSomeAnd (utc_offset_by given.now) IsOffsetReadBack }
 {
     print_into::<Utf16, _>(given, out, count)
 }

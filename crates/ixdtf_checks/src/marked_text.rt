@@ -323,15 +323,15 @@ fn add_run(room: &mut [u8; ROOM], at: usize, bytes: &[u8]) -> bool
     ensures ascii { IsTrue result → IsAscii bytes.now }
 {
     let whole = &mut room[..];
-    show(&mut whole[at..at + bytes.len()], bytes) < 0x80
+    copy_masked(&mut whole[at..at + bytes.len()], bytes) < 0x80
 }
 
-/// Writes each byte of `bytes` as `shown` returns it. Returns the greatest byte, or 0 if there are no bytes.
+/// Writes each byte of `bytes` as `masked` returns it. Returns the greatest byte, or 0 if there are no bytes.
 ///
 /// Both slices are cut to the same length, so that the compiled code can write many bytes at once. The loop also finds the greatest
 /// byte. In a loop of its own, this would make the processor mispredict about one branch more for each report.
 #[inline(always)]
-fn show(room: &mut [u8], bytes: &[u8]) -> u8
+fn copy_masked(room: &mut [u8], bytes: &[u8]) -> u8
     requires { length room.old ≡ length bytes.now }
     ensures shown { room.new ≡ map mask bytes.now }
     ensures greatest { (index : ℕ) → slice_index bytes.now index ≤ result }
@@ -341,13 +341,13 @@ fn show(room: &mut [u8], bytes: &[u8]) -> u8
     for index in 0..room.len() {
         let byte = bytes[index];
         greatest = byte.max(greatest);
-        room[index] = shown(byte);
+        room[index] = masked(byte);
     }
     greatest
 }
 
 /// Returns `.` for a control character of one byte, and any other byte unchanged.
-fn shown(byte: u8) -> u8
+fn masked(byte: u8) -> u8
     ensures { result ≡ mask byte }
 {
     if byte < b' ' || byte == 0x7F {

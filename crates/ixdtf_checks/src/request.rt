@@ -1,4 +1,4 @@
-//! The options of the check of one file.
+//! What the check of one file does with the lines: the options, after `arguments` has read them.
 
 use crate::kind::{InstantKind, Kind};
 use ixdtf::parsers::Profile;

@@ -1,6 +1,7 @@
 // Made by tools/to_rust.py of crates/ixdtf_c/src/error_constants.rt. Do not edit.
 
-//! The names of the numbers that functions return. They are the names in the C header.
+//! The function for C that returns the name of a constant: the C header has a constant, such as `IXDTF_OK`, for each number
+//! that a reader returns.
 
 use crate::error_numbers::Text;
 use crate::slices::to_c;

@@ -1,7 +1,7 @@
 // Made by tools/to_rust.py of crates/ixdtf_c/src/exports.rt. Do not edit.
 
-//! The readers that the C header declares, for 8-bit text and for 16-bit text, and the functions that check replies. Each
-//! function only calls a function of another module, which does the work.
+//! The functions for C that read texts, for 8-bit text and for 16-bit text, with and without a list of annotations, and the
+//! functions that check replies. Each function only calls a function of another module, which does the work.
 //!
 //! These clauses are in the contracts of the readers:
 //!

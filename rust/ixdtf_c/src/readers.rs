@@ -1,6 +1,7 @@
 // Made by tools/to_rust.py of crates/ixdtf_c/src/readers.rt. Do not edit.
 
-//! The readers and the check of replies, for 8-bit and for 16-bit text.
+//! What the functions of `exports` do: read a text with a reader of the library, and write the result into the struct of the
+//! caller. The functions are generic, for 8-bit and for 16-bit text. The check of replies is here too.
 
 use crate::error_numbers::number_and_location;
 use crate::struct_traits::{AnnotationOf, CalendarOf, RecordOf};

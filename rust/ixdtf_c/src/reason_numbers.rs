@@ -1,6 +1,6 @@
 // Made by tools/to_rust.py of crates/ixdtf_c/src/reason_numbers.rt. Do not edit.
 
-//! The numbers and the names of the reasons why a reader refuses a text.
+//! The numbers and the names that the reasons of the library have in C.
 
 use crate::error_numbers::Text;
 use crate::slices::to_c;

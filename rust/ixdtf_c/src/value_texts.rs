@@ -5,7 +5,7 @@
 
 use crate::duration_conversion::duration_of;
 use crate::duration_struct::Duration;
-use crate::part_conversion::{area_of, shift_of};
+use crate::part_conversion::{time_zone_of, utc_offset_of};
 use crate::part_structs::Offset;
 use crate::printer_trait::Printers;
 use crate::record_conversion::record_of;
@@ -81,7 +81,7 @@ impl<'a, T: Printers> HasText<T> for Duration<'a> {
 impl<T: Printers> HasText<T> for Offset {
     #[inline(always)]
     fn print(&self, out: &mut [T::CodeUnit]) -> Result<usize, PrintError> {
-        match shift_of(self) {
+        match utc_offset_of(self) {
             None => Err(PrintError::NotPrintable),
             Some(found) => T::print_offset(&found, out),
         }
@@ -89,7 +89,7 @@ impl<T: Printers> HasText<T> for Offset {
 
     #[inline(always)]
     fn needs(&self) -> Option<usize> {
-        match shift_of(self) {
+        match utc_offset_of(self) {
             None => None,
             Some(found) => offset_length(&found),
         }
@@ -102,7 +102,7 @@ where
 {
     #[inline(always)]
     fn print(&self, out: &mut [T::CodeUnit]) -> Result<usize, PrintError> {
-        match area_of(self.zone) {
+        match time_zone_of(self.zone) {
             None => Err(PrintError::NotPrintable),
             Some(found) => T::print_zone(&found, out),
         }
@@ -110,7 +110,7 @@ where
 
     #[inline(always)]
     fn needs(&self) -> Option<usize> {
-        match area_of(self.zone) {
+        match time_zone_of(self.zone) {
             None => None,
             Some(found) => T::zone_length(&found),
         }

@@ -242,27 +242,27 @@ fn add_masked(room: &mut [u8; ROOM], at: usize, bytes: &[u8]) -> usize {
 #[inline(always)]
 fn add_run(room: &mut [u8; ROOM], at: usize, bytes: &[u8]) -> bool {
     let whole = &mut room[..];
-    show(&mut whole[at..at + bytes.len()], bytes) < 0x80
+    copy_masked(&mut whole[at..at + bytes.len()], bytes) < 0x80
 }
 
-/// Writes each byte of `bytes` as `shown` returns it. Returns the greatest byte, or 0 if there are no bytes.
+/// Writes each byte of `bytes` as `masked` returns it. Returns the greatest byte, or 0 if there are no bytes.
 ///
 /// Both slices are cut to the same length, so that the compiled code can write many bytes at once. The loop also finds the greatest
 /// byte. In a loop of its own, this would make the processor mispredict about one branch more for each report.
 #[inline(always)]
-fn show(room: &mut [u8], bytes: &[u8]) -> u8 {
+fn copy_masked(room: &mut [u8], bytes: &[u8]) -> u8 {
     let bytes = &bytes[..room.len()];
     let mut greatest = 0;
     for index in 0..room.len() {
         let byte = bytes[index];
         greatest = byte.max(greatest);
-        room[index] = shown(byte);
+        room[index] = masked(byte);
     }
     greatest
 }
 
 /// Returns `.` for a control character of one byte, and any other byte unchanged.
-fn shown(byte: u8) -> u8 {
+fn masked(byte: u8) -> u8 {
     if byte < b' ' || byte == 0x7F {
         b'.'
     } else {

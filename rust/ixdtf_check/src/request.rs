@@ -1,6 +1,6 @@
 // Made by tools/to_rust.py of crates/ixdtf_checks/src/request.rt. Do not edit.
 
-//! The options of the check of one file.
+//! What the check of one file does with the lines: the options, after `arguments` has read them.
 
 use crate::kind::{InstantKind, Kind};
 use ixdtf::parsers::Profile;

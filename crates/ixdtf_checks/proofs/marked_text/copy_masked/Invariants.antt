@@ -1,5 +1,5 @@
 -- One iteration of the loop reads one byte.
-use Rattle.ixdtf_checks.proofs.marked_text.show.Given as goal
+use Rattle.ixdtf_checks.proofs.marked_text.copy_masked.Given as goal
 use Rattle.std.proofs.Common.{◌≡◌, ◌<◌, ◌≤◌, ℕ, map, take, slice_index}
 use Rattle.ixdtf_checks.specs.Pointed.{mask}
 

@@ -1,5 +1,5 @@
 -- Proves what the loop has found after its last byte.
-use Rattle.ixdtf_checks.proofs.marked_text.show.Goals as goal
+use Rattle.ixdtf_checks.proofs.marked_text.copy_masked.Goals as goal
 use Rattle.std.proofs.{Common.{◌≡◌, length, take, arith}, lemmas.List.take_all}
 use Rattle.ixdtf_checks.proofs.PointedLemmas.{greatest_all}
 

@@ -1,4 +1,4 @@
-use Rattle.ixdtf_c.proofs.part_conversion.shift_of.Goals as goal
+use Rattle.ixdtf_c.proofs.part_conversion.utc_offset_of.Goals as goal
 use Rattle.ixdtf_c.specs.Standing.{offset_by}
 use Rattle.ixdtf_c.proofs.Printed.{printed_shift}
 
