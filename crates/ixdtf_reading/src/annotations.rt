@@ -181,12 +181,29 @@ fn parse_later_pair<'a, T: EncodingType>(
     }
     cursor.advance();
     if is_critical_flag(lead) {
-        let mut here = cursor.fork();
-        let read = parse_critical_pair(&mut here);
-        *cursor = here;
-        return read;
+        return call_critical_pair(cursor);
     }
     stopped(Reason::KeyStart)
+}
+
+/// Does the work of `parse_critical_pair`, with a cursor of its own.
+///
+/// Rattle sets the variables of an inlined function to zero where its code begins. In a function of its own, `here` and `read` are
+/// set to zero for critical annotations only. In `parse_later_pair`, each annotation took five instructions more.
+#[inline(always)]
+fn call_critical_pair<'a, T: EncodingType>(
+    cursor: &mut Cursor<'a, T>,
+) -> Result<Annotation<'a, T>, Reason>
+    ensures pair { Reads T.letter (pair_of T.number) cursor.old result cursor.new
+        (behind (critical_pair_at error_of)) }
+    ensures looks { SpendsOr 3 1 cursor.old result cursor.new }
+    ensures shorter { IfOk result (λ pair.
+        length pair.value.now + 4 + length cursor.new.rest ≤ length cursor.old.rest) }
+{
+    let mut here = cursor.fork();
+    let read = parse_critical_pair(&mut here);
+    *cursor = here;
+    read
 }
 
 /// Reads an annotation at its `!`. The annotation is not in the first bracket of the text.
