@@ -165,7 +165,7 @@ fn judge_print<'a>(
     verdict: &mut Verdict<'a>,
 ) {
     if !kind.is_date_time() {
-        return judge_other_print(kind, profile, part, printed, verdict);
+        return call_other_print(kind, profile, part, printed, verdict);
     }
     match print_date_time(part.text, printed) {
         Ok(()) => *verdict = Verdict::Printed,
@@ -173,7 +173,22 @@ fn judge_print<'a>(
     }
 }
 
-/// Does the work of `judge_print`. The function accepts every kind, but `judge_print` does not call it for date-times.
+/// Calls `judge_other_print`.
+///
+/// This function is inlined, and is a function of its own, so that the part is copied for `judge_other_print` only if the text is no
+/// date-time.
+#[inline(always)]
+fn call_other_print<'a>(
+    kind: Kind,
+    profile: Profile,
+    part: Part<'a>,
+    printed: &mut PrintedText,
+    verdict: &mut Verdict<'a>,
+) {
+    judge_other_print(kind, profile, part, printed, verdict);
+}
+
+/// Does the work of `judge_print`. The function accepts every kind, but it is not called for date-times.
 #[inline(never)]
 fn judge_other_print<'a>(
     kind: Kind,

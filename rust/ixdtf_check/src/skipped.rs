@@ -12,13 +12,30 @@ use crate::request::Skips;
 #[inline(always)]
 pub fn kept_line<'a>(skips: &Option<Skips>, is_first: bool, bytes: &'a [u8]) -> Option<&'a [u8]> {
     if is_first || skips.is_some() {
-        kept_with_care(skips, is_first, bytes)
+        call_kept_with_care(skips, is_first, bytes)
     } else {
         Some(without_return(bytes))
     }
 }
 
-/// Does the work of `kept_line`, and is correct for every line. `kept_line` calls it for the first line of a file, and for all
+/// Calls `kept_with_care`, and makes a new `Option` from its result.
+///
+/// This function is inlined, and is a function of its own for this reason: Rattle's compiler sets the result of the called function to
+/// zero where its code begins. So this is not done for the other lines.
+#[allow(clippy::needless_match)]
+#[inline(always)]
+fn call_kept_with_care<'a>(
+    skips: &Option<Skips>,
+    is_first: bool,
+    bytes: &'a [u8],
+) -> Option<&'a [u8]> {
+    match kept_with_care(skips, is_first, bytes) {
+        None => None,
+        Some(line) => Some(line),
+    }
+}
+
+/// Does the work of `kept_line`, and is correct for every line. It is called for the first line of a file, and for all
 /// lines if an option asks to skip lines. The function is not inlined, because usually most lines do not need it.
 #[inline(never)]
 fn kept_with_care<'a>(skips: &Option<Skips>, is_first: bool, bytes: &'a [u8]) -> Option<&'a [u8]> {
