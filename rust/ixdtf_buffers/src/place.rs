@@ -1,10 +1,17 @@
 //! The search for a byte.
 //!
 //! A person wrote this file. The proved crate compares sixteen bytes at once with `std::simd`, which stable Rust does not have. Here, a search
-//! compares the eight bytes of a word at once. The loop that counts bytes has no words, because the compiler makes vector code from it.
+//! compares the eight bytes of a word at once. The loops that count bytes, and that look for a byte in a block, have no words, because the
+//! compiler makes vector code from them.
 
 /// The number of bytes of a word.
 const WORD: usize = 8;
+
+/// The number of bytes at the front of a long slice that are compared word by word.
+const FRONT: usize = 256;
+
+/// The number of bytes of a block. Behind the front of a long slice, whole blocks are compared at once.
+const BLOCK: usize = 64;
 
 /// The word in which each byte is 1.
 const ONES: u64 = u64::MAX / 255;
@@ -21,17 +28,43 @@ pub fn place_of(wanted: u8, bytes: &[u8]) -> Option<usize> {
         [] => None,
         [first, ..] if *first == wanted => Some(0),
         _ if bytes.len() < WORD => bytes.iter().position(|byte| *byte == wanted),
+        _ if bytes.len() < FRONT => place_from(wanted, bytes, 0),
         _ => place_in_many(wanted, bytes),
     }
 }
 
-/// Does the work of `place_of` for at least `WORD` bytes.
+/// Does the work of `place_of` for at least `FRONT` bytes.
+///
+/// Most lines and fields are short, so the first `FRONT` bytes are compared word by word.
+fn place_in_many(wanted: u8, bytes: &[u8]) -> Option<usize> {
+    place_from(wanted, &bytes[..FRONT], 0).or_else(|| place_behind_front(wanted, bytes))
+}
+
+/// Does the work of `place_of` if none of the first `FRONT` bytes is equal to `wanted`.
+///
+/// It compares whole blocks first. A byte of a long line takes 0.29 instructions in a block, and 1.4 instructions word by word.
+#[inline(never)]
+fn place_behind_front(wanted: u8, bytes: &[u8]) -> Option<usize> {
+    let blocks = bytes[FRONT..].chunks_exact(BLOCK);
+    let passed = blocks.take_while(|block| !has_byte(wanted, block)).count();
+    place_from(wanted, bytes, FRONT + BLOCK * passed)
+}
+
+/// Returns whether a byte of the block is equal to `wanted`.
+///
+/// The loop compares all bytes of the block, also after it has found one. So the compiler makes vector code.
+#[inline(always)]
+fn has_byte(wanted: u8, block: &[u8]) -> bool {
+    block.iter().fold(false, |found, byte| found | (*byte == wanted))
+}
+
+/// Does the work of `place_of` for at least `WORD` bytes, if none of the bytes before the index `start` is equal to `wanted`.
 ///
 /// The last comparison takes the last `WORD` bytes, some of which can have been compared before.
 #[inline(always)]
-fn place_in_many(wanted: u8, bytes: &[u8]) -> Option<usize> {
+fn place_from(wanted: u8, bytes: &[u8], start: usize) -> Option<usize> {
     let last = bytes.len() - WORD;
-    let mut start = 0;
+    let mut start = start;
     while start < last {
         let marks = marks_from(wanted, bytes, start);
         if marks != 0 {

@@ -1,6 +1,7 @@
 //! Compares `place_of` and `pass_many` with simple functions that go byte by byte. A person wrote both functions, and they are not proved.
 //!
-//! A search by words of eight bytes, or by steps of sixteen, can go wrong at the ends of a word, and at bytes that are similar to the wanted one.
+//! A search by words of eight bytes, by steps of sixteen or by blocks of 64 can go wrong at the ends of a word, and at bytes that are similar to
+//! the wanted one.
 //! So the tests have the wanted byte at each index of slices of many lengths. The other bytes are the wanted byte plus or minus 1, bytes that
 //! differ from it in one bit, and some more.
 
@@ -86,6 +87,33 @@ fn finds_one_in_each_place() {
     }
 }
 
+/// Lengths at both ends of the first 256 bytes, which are compared word by word, and of the first two blocks of 64 bytes after them.
+fn long_lengths() -> impl Iterator<Item = usize> {
+    (254..=258).chain(263..=265).chain(319..=321).chain(327..=329).chain(383..=385).chain(391..=393)
+}
+
+/// In a long slice, the wanted byte is at each index, alone or with the wanted byte at all later indexes.
+#[test]
+fn finds_the_first_of_a_long_slice() {
+    for wanted in [b'\n', 0x00, 0x80, 0xff] {
+        for other in [wanted.wrapping_add(1), wanted.wrapping_sub(1), wanted ^ 0x80] {
+            for length in long_lengths() {
+                let mut bytes = vec![other; length];
+                check(wanted, &bytes);
+                for place in 0..length {
+                    bytes[place] = wanted;
+                    check(wanted, &bytes);
+                    bytes[place] = other;
+                }
+                for place in (0..length).rev() {
+                    bytes[place] = wanted;
+                    check(wanted, &bytes);
+                }
+            }
+        }
+    }
+}
+
 /// A wrong search can take a byte right before or after the wanted one for it, because a subtraction from a word borrows from the next byte.
 #[test]
 fn finds_the_first_of_two_beside_each_other_byte() {
@@ -127,7 +155,8 @@ fn looks_at_the_slice_alone() {
 fn agrees_on_bytes_that_look_random() {
     let mut state = 0x2545_f491_4f6c_dd1d_u64;
     for round in 0..40_000_u32 {
-        let mut bytes = vec![0; (round % 97) as usize];
+        let most = if round % 16 < 4 { 601 } else { 97 };
+        let mut bytes = vec![0; (round % most) as usize];
         for byte in &mut bytes {
             state ^= state << 13;
             state ^= state >> 7;
