@@ -21,7 +21,7 @@ use ixdtf::encoding::Utf8;
 use ixdtf::records::{
     DurationParseRecord, IxdtfParseRecord, TimeZoneAnnotation, TimeZoneRecord, UtcOffsetRecord,
 };
-use ixdtf_buffers::adding::{ROOM, add_byte, add_bytes};
+use ixdtf_buffers::adding::{ROOM, add_array, add_byte, add_bytes};
 use ixdtf_buffers::error::RunError;
 use ixdtf_buffers::output::Output;
 use ixdtf_buffers::sink::Sink;
@@ -55,7 +55,7 @@ fn add_record_front(room: &mut [u8; ROOM], parts: &IxdtfParseRecord<'_, Utf8>) -
         ++ (time_field_of parts.now.time ++ (offset_field_of parts.now.offset
         ++ zone_field_front_of (option_map (note_of (λ byte. byte)) parts.now.tz))))) }
 {
-    let date = add_bytes(room, 0, b"ok");
+    let date = add_array(room, 0, b"ok");
     let time = add_date_field(room, date, parts.date);
     let offset = add_time_field(room, time, parts.time);
     let zone = add_offset_field(room, offset, parts.offset);
@@ -123,7 +123,7 @@ pub fn put_offset<K: Sink>(
     ensures { Puts K.contents K.failed output.old output.new result
         (codes "ok" ++ offset_text_of offset ++ newline ∷ []) }
 {
-    let field = add_bytes(room, 0, b"ok");
+    let field = add_array(room, 0, b"ok");
     let front = add_offset(room, field, offset);
     let end = add_byte(room, front, b'\n');
     output.put(&room[..end])
@@ -139,7 +139,7 @@ pub fn put_zone<K: Sink>(
     ensures { Puts K.contents K.failed output.old output.new result
         (codes "ok" ++ zone_text_of false (zone_of (λ byte. byte) zone.now) ++ newline ∷ []) }
 {
-    let field = add_bytes(room, 0, b"ok");
+    let field = add_array(room, 0, b"ok");
     let front = add_zone_front(room, field, false, zone);
     put_front_and_name(output, room, front, zone_name(zone))
 }
@@ -153,7 +153,7 @@ pub fn put_duration<K: Sink>(
     ensures { Puts K.contents K.failed output.old output.new result
         (codes "ok" ++ duration_text_of duration ++ newline ∷ []) }
 {
-    let field = add_bytes(room, 0, b"ok");
+    let field = add_array(room, 0, b"ok");
     let front = add_duration(room, field, duration);
     let end = add_byte(room, front, b'\n');
     output.put(&room[..end])
@@ -173,7 +173,7 @@ pub fn put_instant<K: Sink>(
     let Some(instant) = parts.instant() else {
         return output.put(b"error no instant\n");
     };
-    let field = add_bytes(room, 0, b"ok");
+    let field = add_array(room, 0, b"ok");
     let front = add_instant(room, field, instant);
     let end = add_byte(room, front, b'\n');
     output.put(&room[..end])
@@ -193,7 +193,7 @@ pub fn put_error<K: Sink>(
     ensures { Puts K.contents K.failed output.old output.new result
         (error_answer_of (fault_of error) ++ newline ∷ []) }
 {
-    let first = add_bytes(room, 0, b"error ");
+    let first = add_array(room, 0, b"error ");
     let (text, location) = error_parts(error);
     let second = add_bytes(room, first, text.as_bytes());
     let newline = add_bytes(room, second, location.as_bytes());

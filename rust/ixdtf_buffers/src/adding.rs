@@ -33,6 +33,28 @@ pub fn add_bytes<const SIZE: usize>(room: &mut [u8; SIZE], at: usize, bytes: &[u
     end
 }
 
+/// Writes the bytes of an array from the index on, and returns the index after them.
+///
+/// Many parts of an answer are constant words, such as ` date=`. The compiler knows the bytes of such a word, and writes several of them
+/// in one instruction. `add_bytes` would take six instructions more: with Rattle's compiler, its code first tests whether the two
+/// slices overlap.
+#[inline(always)]
+pub fn add_array<const SIZE: usize, const COUNT: usize>(
+    room: &mut [u8; SIZE],
+    at: usize,
+    bytes: &[u8; COUNT],
+) -> usize {
+    let end = at + COUNT;
+    let whole = &mut room[..];
+    let part = &mut whole[at..end];
+    let mut count = 0;
+    while count < COUNT {
+        part[count] = bytes[count];
+        count += 1;
+    }
+    end
+}
+
 /// Writes a number below 256 in decimal digits from the index on, and returns the index after it.
 #[inline(always)]
 pub fn add_small<const SIZE: usize>(room: &mut [u8; SIZE], at: usize, number: u8) -> usize {

@@ -11,7 +11,7 @@ use ixdtf::records::{
     MinutePrecisionOffset, Sign, TimeDurationRecord, TimeRecord, TimeZoneAnnotation,
     TimeZoneRecord, UtcOffsetRecord, UtcOffsetRecordOrZ,
 };
-use ixdtf_buffers::adding::{ROOM, add_byte, add_bytes, add_number, add_signed, add_small};
+use ixdtf_buffers::adding::{ROOM, add_array, add_byte, add_number, add_signed, add_small};
 use ixdtf_print::put_digits;
 
 /// Adds a comma and a number below 256.
@@ -31,7 +31,7 @@ pub fn add_date_field(room: &mut [u8; ROOM], at: usize, date: Option<DateRecord>
     let Some(date) = date else {
         return at;
     };
-    let year = add_bytes(room, at, b" date=");
+    let year = add_array(room, at, b" date=");
     let month = add_signed(room, year, date.year);
     let day = add_small_behind_comma(room, month, date.month);
     add_small_behind_comma(room, day, date.day)
@@ -49,7 +49,7 @@ pub fn add_time_field(room: &mut [u8; ROOM], at: usize, time: Option<TimeRecord>
 
 /// Adds the hour, minute and second.
 fn add_clock(room: &mut [u8; ROOM], at: usize, time: TimeRecord) -> usize {
-    let hour = add_bytes(room, at, b" time=");
+    let hour = add_array(room, at, b" time=");
     let minute = add_small(room, hour, time.hour);
     let second = add_small_behind_comma(room, minute, time.minute);
     add_small_behind_comma(room, second, time.second)
@@ -76,13 +76,13 @@ pub fn add_offset_field(
     match offset {
         None => at,
         Some(UtcOffsetRecordOrZ::Offset(offset)) => add_offset(room, at, offset),
-        Some(UtcOffsetRecordOrZ::Z) => add_bytes(room, at, b" offset=Z"),
+        Some(UtcOffsetRecordOrZ::Z) => add_array(room, at, b" offset=Z"),
     }
 }
 
 /// Adds the field of an offset that is not `Z`.
 pub fn add_offset(room: &mut [u8; ROOM], at: usize, offset: UtcOffsetRecord) -> usize {
-    let sign = add_bytes(room, at, b" offset=");
+    let sign = add_array(room, at, b" offset=");
     match offset {
         UtcOffsetRecord::MinutePrecision(offset) => add_minute_offset(room, sign, offset),
         UtcOffsetRecord::FullPrecisionOffset(offset) => add_full_offset(room, sign, offset),
@@ -138,17 +138,17 @@ pub fn add_zone_front(
 /// Adds the label of the field of a zone, with `!` if the zone is critical.
 fn add_zone_label(room: &mut [u8; ROOM], at: usize, critical: bool) -> usize {
     if critical {
-        add_bytes(room, at, b" tz=!")
+        add_array(room, at, b" tz=!")
     } else {
-        add_bytes(room, at, b" tz=")
+        add_array(room, at, b" tz=")
     }
 }
 
 /// Adds the seconds and the nanoseconds of an instant.
 pub fn add_instant(room: &mut [u8; ROOM], at: usize, instant: Instant) -> usize {
-    let seconds = add_bytes(room, at, b" seconds=");
+    let seconds = add_array(room, at, b" seconds=");
     let label = add_seconds(room, seconds, instant.seconds);
-    let nanoseconds = add_bytes(room, label, b" nanoseconds=");
+    let nanoseconds = add_array(room, label, b" nanoseconds=");
     add_number(room, nanoseconds, u64::from(instant.nanoseconds))
 }
 
@@ -176,7 +176,7 @@ pub fn add_duration(room: &mut [u8; ROOM], at: usize, duration: DurationParseRec
 
 /// Adds the sign of a duration.
 fn add_sign_field(room: &mut [u8; ROOM], at: usize, sign: Sign) -> usize {
-    let mark = add_bytes(room, at, b" sign=");
+    let mark = add_array(room, at, b" sign=");
     add_byte(room, mark, mark_of(sign))
 }
 
@@ -189,7 +189,7 @@ fn add_date_duration_field(
     let Some(date) = date else {
         return at;
     };
-    let years = add_bytes(room, at, b" date=");
+    let years = add_array(room, at, b" date=");
     let months = add_number(room, years, u64::from(date.years));
     let weeks = add_number_behind_comma(room, months, u64::from(date.months));
     let days = add_number_behind_comma(room, weeks, u64::from(date.weeks));
@@ -212,7 +212,7 @@ fn add_time_duration_field(
 
 /// Adds the hours of a duration, and the minutes and seconds that it has.
 fn add_time_numbers(room: &mut [u8; ROOM], at: usize, time: &TimeDurationRecord) -> usize {
-    let first = add_bytes(room, at, b" time=");
+    let first = add_array(room, at, b" time=");
     match time {
         TimeDurationRecord::Hours { hours, .. } => add_number(room, first, *hours),
         TimeDurationRecord::Minutes { hours, minutes, .. } => {

@@ -11,7 +11,7 @@ use ixdtf::encoding::Utf8;
 use ixdtf::records::{
     DurationParseRecord, IxdtfParseRecord, TimeZoneAnnotation, TimeZoneRecord, UtcOffsetRecord,
 };
-use ixdtf_buffers::adding::{ROOM, add_byte, add_bytes};
+use ixdtf_buffers::adding::{ROOM, add_array, add_byte, add_bytes};
 use ixdtf_buffers::error::RunError;
 use ixdtf_buffers::output::Output;
 use ixdtf_buffers::sink::Sink;
@@ -37,7 +37,7 @@ pub fn put_record<K: Sink>(
 /// Adds `ok`, and the part of the record's fields that comes before the name of its zone. The name is not added. Returns the
 /// index after the added bytes.
 fn add_record_front(room: &mut [u8; ROOM], parts: &IxdtfParseRecord<'_, Utf8>) -> usize {
-    let date = add_bytes(room, 0, b"ok");
+    let date = add_array(room, 0, b"ok");
     let time = add_date_field(room, date, parts.date);
     let offset = add_time_field(room, time, parts.time);
     let zone = add_offset_field(room, offset, parts.offset);
@@ -92,7 +92,7 @@ pub fn put_offset<K: Sink>(
     room: &mut [u8; ROOM],
     offset: UtcOffsetRecord,
 ) -> Result<(), RunError> {
-    let field = add_bytes(room, 0, b"ok");
+    let field = add_array(room, 0, b"ok");
     let front = add_offset(room, field, offset);
     let end = add_byte(room, front, b'\n');
     output.put(&room[..end])
@@ -105,7 +105,7 @@ pub fn put_zone<K: Sink>(
     room: &mut [u8; ROOM],
     zone: &TimeZoneRecord<'_, Utf8>,
 ) -> Result<(), RunError> {
-    let field = add_bytes(room, 0, b"ok");
+    let field = add_array(room, 0, b"ok");
     let front = add_zone_front(room, field, false, zone);
     put_front_and_name(output, room, front, zone_name(zone))
 }
@@ -116,7 +116,7 @@ pub fn put_duration<K: Sink>(
     room: &mut [u8; ROOM],
     duration: DurationParseRecord,
 ) -> Result<(), RunError> {
-    let field = add_bytes(room, 0, b"ok");
+    let field = add_array(room, 0, b"ok");
     let front = add_duration(room, field, duration);
     let end = add_byte(room, front, b'\n');
     output.put(&room[..end])
@@ -132,7 +132,7 @@ pub fn put_instant<K: Sink>(
     let Some(instant) = parts.instant() else {
         return output.put(b"error no instant\n");
     };
-    let field = add_bytes(room, 0, b"ok");
+    let field = add_array(room, 0, b"ok");
     let front = add_instant(room, field, instant);
     let end = add_byte(room, front, b'\n');
     output.put(&room[..end])
@@ -148,7 +148,7 @@ pub fn put_error<K: Sink>(
     room: &mut [u8; ROOM],
     error: ParseError,
 ) -> Result<(), RunError> {
-    let first = add_bytes(room, 0, b"error ");
+    let first = add_array(room, 0, b"error ");
     let (text, location) = error_parts(error);
     let second = add_bytes(room, first, text.as_bytes());
     let newline = add_bytes(room, second, location.as_bytes());

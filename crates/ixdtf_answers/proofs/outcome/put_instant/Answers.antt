@@ -7,5 +7,5 @@ returns-in_default g c = rw (without_instant c.args.parts.now c.requires c.in_de
 
 pub returns : goal.returns
 returns g c =
-    let put = rw (c.add_byte-end.ensures.text.is, c.add_instant-front.ensures.text.is, c.add_bytes-field.ensures.text.is) at c.put-2.ensures in
+    let put = rw (c.add_byte-end.ensures.text.is, c.add_instant-front.ensures.text.is, c.add_array-field.ensures.text.is) at c.put-2.ensures in
     rw (with_instant c.args.parts.now c.in-Some.instant c.in-Some.ensures.some) put
