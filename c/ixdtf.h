@@ -5,9 +5,9 @@
  * libixdtf.so is a symbolic link to libixdtf.so.2, because a linker looks for the name libixdtf.so.
  * The library allocates no memory, keeps no state and starts no thread. c/build builds either the
  * proved library or the plain library. Both have the same functions. The proved library is for
- * Linux on x86-64 processors with SSE4.2 and POPCNT (x86-64-v2), and calls no function of another
- * library. The plain library is for each 64-bit system that rustc supports. It may call memcmp,
- * memcpy and similar functions of the C library. docs/C.md says what is proved about each of the
+ * Linux on x86-64 processors with SSE4.2 and POPCNT (x86-64-v2). Of other libraries, it calls only
+ * memcpy, memmove and memset of the C library. The plain library is for each 64-bit system that
+ * rustc supports. It may also call memcmp and bcmp. docs/C.md says what is proved about each of the
  * two.
  *
  * TEXTS. A text is passed as a pointer to its first code unit and a length, in code units. A code
