@@ -127,7 +127,7 @@ class Tree:
     def promises(self) -> dict[str, dict[str, str]]:
         """For each record that is a clause of a reader: what its fields say."""
         found, record = {}, {}
-        for path in (it for it in self.files if it.endswith('specs/Promises.antt')):
+        for path in (it for it in self.files if it.endswith(('specs/Promises.antt', 'specs/LocatedPromises.antt'))):
             for line in self.read(path).splitlines():
                 begins, field = re.match(r'pub record (\S+)', line), re.match(r'  pub (\S+) : (.*)', line)
                 if begins:
@@ -490,9 +490,12 @@ def value_of(count: str) -> int:
     return NUMBERS.index(count.lower()) if count.lower() in NUMBERS else int(count.replace(',', ''))
 
 
+OF_DEFINITIONS = ('crates/ixdtf_grammar/specs/', 'crates/ixdtf_explanations/specs/')
+
+
 def definitions(tree: Tree) -> list[str]:
     """The files of the definitions to which public clauses refer."""
-    return [it for it in tree.files if it.startswith('crates/ixdtf_grammar/specs/') and os.path.basename(it) not in NO_DEFINITIONS]
+    return [it for it in tree.files if it.startswith(OF_DEFINITIONS) and os.path.basename(it) not in NO_DEFINITIONS]
 
 
 def lines_of_definitions(tree: Tree) -> list[str]:
@@ -844,6 +847,7 @@ def findings_in_errors(document: Document) -> Iterator[Finding]:
 # The messages
 
 GRAMMAR = 'crates/ixdtf_grammar/src/'
+EXPLANATIONS = 'crates/ixdtf_explanations/src/'
 AT_END, AT_ANOTHER = 'At the end of the text', 'At another character'
 # what a cell has instead of a message if the text may end, and the conditions that no guard has
 MAY_END, WHATEVER, OTHERWISE = 'ok', 'Whatever follows', 'Otherwise'
@@ -918,12 +922,12 @@ def reasons(tree: Tree) -> list[str]:
 
 def shows_front(tree: Tree) -> set[str]:
     """The reasons whose wrong part is all of the text before the position."""
-    return {it for arm in arms_of(tree.read(GRAMMAR + 'part.rt'), 'extent_of') if 'Extent::Front' in arm.body for it in arm.reasons()}
+    return {it for arm in arms_of(tree.read(EXPLANATIONS + 'part.rt'), 'extent_of') if 'Extent::Front' in arm.body for it in arm.reasons()}
 
 
 def last_day_words(tree: Tree) -> str:
     """The words about the last day of the month. Raises ValueError if they differ in more than the day."""
-    words = {words[1] if words else arm.body for arm in arms_of(tree.read(GRAMMAR + 'wording.rt'), 'to_day')
+    words = {words[1] if words else arm.body for arm in arms_of(tree.read(EXPLANATIONS + 'wording.rt'), 'to_day')
              for words in [LAST_DAY.fullmatch(arm.body)]}
     if len(words) != 1:
         raise ValueError(f'`to_day` has different words: {"; ".join(sorted(words))}')
@@ -948,7 +952,7 @@ def texts_of(arm: Arm, part: str, last_day: str) -> tuple[str, str]:
 def messages_in_code(tree: Tree) -> dict[str, Cells]:
     """The cells that the code has for each reason. Raises ValueError or KeyError if the code is not written in the right form."""
     fronts, last_day, found = shows_front(tree), last_day_words(tree), {}
-    for arm in arms_of(tree.read(GRAMMAR + 'wording.rt'), 'wording_of'):
+    for arm in arms_of(tree.read(EXPLANATIONS + 'wording.rt'), 'wording_of'):
         for reason in arm.reasons() or [arm.pattern]:
             at_end, at_another = texts_of(arm, '{front}' if reason in fronts else '{number}', last_day)
             cells = found.setdefault(reason, {AT_END: [], AT_ANOTHER: []})
@@ -1033,7 +1037,7 @@ IN_A_HINT = {'{digit}': '[0-9]', '{front}': '[0-9]+', '{char}': '.+'}
 
 def files_of_hints(tree: Tree) -> list[str]:
     """The files of the code that have hints: hint.rt and those in hint/."""
-    return [it for it in tree.files if it == GRAMMAR + 'hint.rt' or it.startswith(GRAMMAR + 'hint/')]
+    return [it for it in tree.files if it == EXPLANATIONS + 'hint.rt' or it.startswith(EXPLANATIONS + 'hint/')]
 
 
 def hints_in_code(tree: Tree) -> set[str]:

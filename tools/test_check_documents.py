@@ -274,11 +274,11 @@ class Messages(InATree):
     def setUp(self):
         super().setUp()
         self.write_code(MESSAGE)
-        self.write(check.GRAMMAR + 'part.rt', PART)
+        self.write(check.EXPLANATIONS + 'part.rt', PART)
 
     def write_code(self, message: str, reasons: str = 'Start, Hour, OffsetHour, ZoneHour, Day, Front, After, Behind, Unit'):
         """Writes the code of the messages, and the reasons."""
-        self.write(check.GRAMMAR + 'wording.rt', message)
+        self.write(check.EXPLANATIONS + 'wording.rt', message)
         self.write(check.GRAMMAR + 'reason.rt', 'pub enum Reason {\n' + ''.join(f'    {it},\n' for it in reasons.split(', ')) + '}\n')
 
     def found(self, old: str = '', new: str = '') -> list[str]:

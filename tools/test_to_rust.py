@@ -23,7 +23,7 @@ PAIRS = [('crates/ixdtf/src', 'rust/ixdtf/src'), ('crates/ixdtf_tests/src', 'rus
          ('crates/ixdtf_buffers/src', 'rust/ixdtf_buffers/src'), ('crates/ixdtf_checks/src', 'rust/ixdtf_check/src'),
          ('crates/ixdtf_c/src', 'rust/ixdtf_c/src')]
 # the layers of the library, whose modules are at the root of the crate that is made, or in `parsers`
-LAYERS = ['instants', 'grammar', 'reading', 'times', 'brackets', 'durations']
+LAYERS = ['instants', 'grammar', 'reading', 'explanations', 'times', 'brackets', 'durations']
 AT_THE_ROOT = {'civil', 'days', 'display', 'instant', 'encoding', 'error', 'hexadecimal', 'hint', 'instants', 'located', 'message', 'packed', 'part', 'pointed',
                'reason', 'records', 'wording', 'classes', 'codes', 'cursor', 'error_code', 'stop'}
 PAIRS += [(f'crates/ixdtf_{layer}/src', 'rust/ixdtf/src') for layer in LAYERS]

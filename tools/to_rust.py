@@ -73,8 +73,9 @@ FOR_C = ('#![cfg_attr(not(test), no_std)]\n', '\n#[cfg(not(test))]\nmod abort;\n
 # the layers of the library, and where their modules go in the crate that is made from all of them
 LAYERS = {
     'ixdtf_instants': 'civil days display instant'.split(),
-    'ixdtf_grammar': 'encoding error hexadecimal hint instants located message packed part pointed reason records parsers/profile wording'.split(),
+    'ixdtf_grammar': 'encoding error instants packed reason records parsers/profile'.split(),
     'ixdtf_reading': 'classes codes cursor error_code stop parsers/annotations parsers/letters'.split(),
+    'ixdtf_explanations': 'hexadecimal hint located message part pointed wording'.split(),
     'ixdtf_times': 'parsers/date_times parsers/dates parsers/months parsers/offsets parsers/rfc3339 parsers/time'.split(),
     'ixdtf_brackets': 'parsers/brackets parsers/exact_zones parsers/zone'.split(),
     'ixdtf_durations': 'parsers/date_groups parsers/duration parsers/group_numbers parsers/time_groups'.split(),

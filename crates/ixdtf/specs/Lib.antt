@@ -9,9 +9,11 @@ pub use Rattle.ixdtf_grammar.specs.Places
 pub use Rattle.ixdtf_grammar.specs.Promises
 pub use Rattle.ixdtf_grammar.specs.Rfc3339Laws
 pub use Rattle.ixdtf_grammar.specs.Rfc9557Laws
-pub use Rattle.ixdtf_grammar.specs.LocatedTexts
-pub use Rattle.ixdtf_grammar.specs.Parts
-pub use Rattle.ixdtf_grammar.specs.Messages
-pub use Rattle.ixdtf_grammar.specs.Hints
+pub use Rattle.ixdtf_explanations.specs.LocatedFaults
+pub use Rattle.ixdtf_explanations.specs.LocatedPromises
+pub use Rattle.ixdtf_explanations.specs.LocatedTexts
+pub use Rattle.ixdtf_explanations.specs.Parts
+pub use Rattle.ixdtf_explanations.specs.Messages
+pub use Rattle.ixdtf_explanations.specs.Hints
 pub use Rattle.ixdtf_grammar.specs.Widths
 pub mod Readings

@@ -43,22 +43,20 @@ pub mod parsers;
 
 // These items are `pub` because other crates of this repository use them. They are not part of the interface for callers.
 #[doc(hidden)]
-pub use ixdtf_grammar::hexadecimal::{byte_digits, character_digits};
+pub use ixdtf_explanations::hexadecimal::{byte_digits, character_digits};
 // This item is `pub` because other crates of this repository use it. It is not part of the interface for callers.
 #[doc(hidden)]
-pub use ixdtf_grammar::located::LocatedReason;
+pub use ixdtf_explanations::located::LocatedReason;
 // This item is `pub` because other crates of this repository use it. It is not part of the interface for callers.
 #[doc(hidden)]
-pub use ixdtf_grammar::message::look_alike;
+pub use ixdtf_explanations::message::look_alike;
 // These items are `pub` because other crates of this repository use them. They are not part of the interface for callers.
 #[doc(hidden)]
-pub use ixdtf_grammar::part::{Numbered, part_of};
+pub use ixdtf_explanations::part::{Numbered, part_of};
 // These items are `pub` because other crates of this repository use them. They are not part of the interface for callers.
 #[doc(hidden)]
-pub use ixdtf_grammar::pointed::{
+pub use ixdtf_explanations::pointed::{
     BEFORE_PLACE, FROM_PLACE, column_of, cut_mark, indent_of, marks_of,
 };
-pub use ixdtf_grammar::{
-    Instant, LocatedError, Message, ParseError, ParserResult, PointedText, Reason, Shown,
-    WrongPart, encoding, records,
-};
+pub use ixdtf_explanations::{LocatedError, Message, PointedText, Shown, WrongPart};
+pub use ixdtf_grammar::{Instant, ParseError, ParserResult, Reason, encoding, records};

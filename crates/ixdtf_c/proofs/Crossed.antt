@@ -1,7 +1,10 @@
 -- The contract of a reader of the library gives the contract of a function for C.
 use Rattle.std.proofs.{Common.{◌≡◌, ◌↔◌, ℕ, List, map, Result, Ok, Err, IfErr, OnOk, refl, sym, ap, ◌∙◌}, lemmas.Simd.map-map}
-use Rattle.ixdtf_grammar.specs.declared.{located.LocatedError.LocatedError, profile.Profile.Profile, records.DurationParseRecord.DurationParseRecord}
-use Rattle.ixdtf.specs.{table.{ErrorEquality.location_of, Faults.{fault_of_located, stands_behind}}, Views.{Unread, returned_by}, Laws.InNoOther, Promises.ReadsPartAt}
+use Rattle.ixdtf_grammar.specs.declared.{profile.Profile.Profile, records.DurationParseRecord.DurationParseRecord}
+use Rattle.ixdtf_explanations.specs.declared.located.LocatedError.{LocatedError}
+use Rattle.ixdtf.specs.{table.ErrorEquality.location_of, Views.{Unread, returned_by}, Laws.InNoOther}
+use Rattle.ixdtf.specs.LocatedFaults.{fault_of_located, stands_behind}
+use Rattle.ixdtf.specs.LocatedPromises.{ReadsPartAt}
 use Rattle.ixdtf.specs.language.{Languages.{Parsed, Found, Found.lasting}, Letters.Letter, Readers.{Reader, Reader.parse_duration}}
 use Rattle.ixdtf_c.specs.Crossing.{Contents, DurationContents, Gives, GivesDuration, record_for, duration_for}
 use Rattle.ixdtf_c.specs.{Located.{FaultAt, HasOutcome, fault_at, returned_at}, Numbers.number_for, Outcomes.{ReadsPart, GivesPart, GivesLasting}}

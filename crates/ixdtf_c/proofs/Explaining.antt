@@ -1,7 +1,10 @@
 -- The explanation of what a reader returned.
 use Rattle.std.proofs.Common.{◌≡◌, ℕ, List, length, min, Some, None, refl}
-use Rattle.ixdtf_grammar.specs.{declared.{located.LocatedError.LocatedError, part.WrongPart.WrongPart}, Parts.{IsPart, extent_of}}
-use Rattle.ixdtf.specs.{language.Letters.Text, table.Faults.{fault_of_located, stands_behind}}
+use Rattle.ixdtf_explanations.specs.declared.located.LocatedError.{LocatedError}
+use Rattle.ixdtf_explanations.specs.declared.part.WrongPart.{WrongPart}
+use Rattle.ixdtf_explanations.specs.Parts.{IsPart, extent_of}
+use Rattle.ixdtf.specs.language.Letters.{Text}
+use Rattle.ixdtf.specs.LocatedFaults.{fault_of_located, stands_behind}
 use Rattle.ixdtf_c.specs.{declared.explanations.Explanation.Explanation, Asked.{Asked, IsOutcome, IsRefusal}, Explained.{Explains, nothing_wrong, explanation_for}}
 use Rattle.ixdtf_c.proofs.Numbers.{number_some}
 

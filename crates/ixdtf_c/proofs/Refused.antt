@@ -1,8 +1,11 @@
 -- The error of a reader, with its position and its reason.
 use Rattle.std.proofs.Common.{◌≡◌, ◌↔◌, ℕ, List, [], map, Option, Some, None, Result, Ok, Err, refl, sym, ap, ◌∙◌, inl, inr}
-use Rattle.ixdtf_grammar.specs.declared.{located.LocatedError.LocatedError, reason.Reason.Reason}
+use Rattle.ixdtf_grammar.specs.declared.reason.Reason.{Reason}
+use Rattle.ixdtf_explanations.specs.declared.located.LocatedError.{LocatedError}
 use Rattle.ixdtf.specs.language.{Letters.{Letter, Text}, Readers.{CoreKind, Reader, Reader.bracketed}, Languages.{Parsed, Found, Found.parsed}}
-use Rattle.ixdtf.specs.{table.{Faults.{Fault, fault_of_located, stands_behind}, Outcomes.{HasFaultAt, HasReason}}, Promises.ReadsPartAt, Views.{Unread, returned_by}}
+use Rattle.ixdtf.specs.{table.{Faults.{Fault}, Outcomes.{HasFaultAt, HasReason}}, Views.{Unread, returned_by}}
+use Rattle.ixdtf.specs.LocatedFaults.{fault_of_located, stands_behind}
+use Rattle.ixdtf.specs.LocatedPromises.{ReadsPartAt}
 use Rattle.ixdtf.specs.Places.{HandledToAt, GivesFaultAt, GivesReason, UnhandledFaultAt, UnhandledReason}
 use Rattle.ixdtf.specs.Handlers.{Step, Calls, handed}
 use Rattle.ixdtf_reading.proofs.theorems.{Handled.{OwnReplies, NoReplies, by_value, replies_own, unhandled_form}, OnePlace.one_unhandled_place, OneReason.{one_unhandled_reason, reason_once}}

@@ -1,6 +1,8 @@
 -- The explanation of an error.
 use Rattle.std.specs.Prelude.{◌≡◌, ◌≢◌, ◌↔◌, ℕ, List, length, min}
-use Rattle.ixdtf_grammar.specs.{declared.{reason.Reason.Reason, part.WrongPart.WrongPart}, Parts.{IsPart, extent_of}}
+use Rattle.ixdtf_grammar.specs.declared.reason.Reason.{Reason}
+use Rattle.ixdtf_explanations.specs.declared.part.WrongPart.{WrongPart}
+use Rattle.ixdtf_explanations.specs.Parts.{IsPart, extent_of}
 use Rattle.ixdtf.specs.{language.Letters.Text, table.Faults.Fault}
 use Rattle.ixdtf_c.specs.{declared.explanations.Explanation.Explanation, Asked.{Asked, Accepts, IsRefusal}, Numbers.number_for, Reasons.reason_number}
 

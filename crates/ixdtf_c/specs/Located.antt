@@ -1,7 +1,9 @@
 -- Errors with their positions.
 use Rattle.std.specs.Prelude.{◌≡◌, ℕ, Result, Ok, Err}
-use Rattle.ixdtf_grammar.specs.declared.{located.LocatedError.LocatedError, reason.Reason.Reason}
-use Rattle.ixdtf.specs.table.Faults.{Fault, fault_of_located}
+use Rattle.ixdtf_grammar.specs.declared.reason.Reason.{Reason}
+use Rattle.ixdtf_explanations.specs.declared.located.LocatedError.{LocatedError}
+use Rattle.ixdtf.specs.table.Faults.{Fault}
+use Rattle.ixdtf.specs.LocatedFaults.{fault_of_located}
 
 -- An error, and its position: the number of code units before it.
 pub record FaultAt : Type 0 where

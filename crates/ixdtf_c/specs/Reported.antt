@@ -1,8 +1,13 @@
 -- The report of an error, and the hint about it.
 use Rattle.std.specs.Prelude.{◌≡◌, ◌⊎◌, ℕ, ◌^◌, ◌≤◌, ◌<◌, List, [], ◌++◌, length, min, take, drop, codes, Option, None, Some}
 use Rattle.std.specs.Str.Lossy.{utf8_valid_len}
-use Rattle.ixdtf_grammar.specs.declared.{reason.Reason.Reason, part.WrongPart.WrongPart, message.Message.Message}
-use Rattle.ixdtf_grammar.specs.{Parts.{IsPart, extent_of}, Messages.{IsMessage, message_text}, Hints.IsHint, LocatedTexts.pointed_text}
+use Rattle.ixdtf_grammar.specs.declared.reason.Reason.{Reason}
+use Rattle.ixdtf_explanations.specs.declared.part.WrongPart.{WrongPart}
+use Rattle.ixdtf_explanations.specs.declared.message.Message.{Message}
+use Rattle.ixdtf_explanations.specs.Parts.{IsPart, extent_of}
+use Rattle.ixdtf_explanations.specs.Messages.{IsMessage, message_text}
+use Rattle.ixdtf_explanations.specs.Hints.{IsHint}
+use Rattle.ixdtf_explanations.specs.LocatedTexts.{pointed_text}
 
 -- The words of a hint, or nothing if there is no hint.
 abbrev pub hint_text : Option Message → List ℕ

@@ -2,9 +2,9 @@
 
 ghost use Rattle.std.specs.Prelude.{◌≡◌, length, map, min, IfSome, IfNone};
 ghost use Rattle.ixdtf.specs.language.Letters.{byte_letter, wide_letter};
-ghost use Rattle.ixdtf.specs.table.Faults.{fault_of_located};
-ghost use Rattle.ixdtf_grammar.specs.declared.part.WrongPart.{WrongPart as Part};
-ghost use Rattle.ixdtf_grammar.specs.Parts.{IsPart, extent_of};
+ghost use Rattle.ixdtf.specs.LocatedFaults.{fault_of_located};
+ghost use Rattle.ixdtf_explanations.specs.declared.part.WrongPart.{WrongPart as Part};
+ghost use Rattle.ixdtf_explanations.specs.Parts.{IsPart, extent_of};
 ghost use Rattle.ixdtf_c.specs.Asked.{asked_by};
 ghost use Rattle.ixdtf_c.specs.Explained.{Explains, explanation_for};
 

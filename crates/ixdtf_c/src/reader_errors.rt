@@ -2,7 +2,7 @@
 
 ghost use Rattle.std.specs.Prelude.{map};
 ghost use Rattle.ixdtf.specs.language.Readers.Reader.{bracketed, parse_duration, parse_iana_identifier, parse_identifier, parse_offset, parse_rfc3339};
-ghost use Rattle.ixdtf.specs.table.Faults.{fault_of_located, stands_behind};
+ghost use Rattle.ixdtf.specs.LocatedFaults.{fault_of_located, stands_behind};
 ghost use Rattle.ixdtf_c.specs.Asked.{asked_of, IsOutcome};
 ghost use Rattle.ixdtf_c.specs.Asked.Asked.{unhandled, listing};
 

@@ -6,7 +6,7 @@
 ghost use Rattle.std.specs.Prelude.{◌≤◌, length, map, take, drop, replicate};
 ghost use Rattle.std.specs.Str.{chars, encode_utf8_all};
 ghost use Rattle.std.specs.Char.{encode_utf8};
-ghost use Rattle.ixdtf_grammar.specs.LocatedTexts.{shown, line_of, pointed_text};
+ghost use Rattle.ixdtf_explanations.specs.LocatedTexts.{shown, line_of, pointed_text};
 ghost use Rattle.ixdtf_c.specs.Adding.{Adds};
 
 use crate::report_bytes::add;

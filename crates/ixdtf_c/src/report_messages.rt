@@ -4,7 +4,7 @@
 //! succeeds. The functions of this file always succeed.
 
 ghost use Rattle.std.specs.Prelude.{◌++◌, codes};
-ghost use Rattle.ixdtf_grammar.specs.Messages.{message_text, shown_text, character_text, look_alike, hex_text};
+ghost use Rattle.ixdtf_explanations.specs.Messages.{message_text, shown_text, character_text, look_alike, hex_text};
 ghost use Rattle.ixdtf_c.specs.Adding.{Adds};
 
 use crate::report_bytes::add;

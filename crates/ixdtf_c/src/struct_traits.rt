@@ -4,7 +4,7 @@ ghost use Rattle.std.specs.Prelude.{◌≡◌, ◌≢◌, Option, Some, None, ma
 ghost use Rattle.ixdtf.specs.Handlers.{calendar_key, pair_of};
 ghost use Rattle.ixdtf.specs.language.Brackets.{Pair};
 ghost use Rattle.ixdtf.specs.table.ErrorEquality.{location_of};
-ghost use Rattle.ixdtf.specs.table.Faults.{fault_of_located};
+ghost use Rattle.ixdtf.specs.LocatedFaults.{fault_of_located};
 ghost use Rattle.ixdtf.specs.Views.{note_of, parsed_of};
 ghost use Rattle.ixdtf_c.specs.Crossing.{Contents, ZoneContents, record_for, zone_for};
 ghost use Rattle.ixdtf_c.specs.Fielded.{keyed};

@@ -1,6 +1,8 @@
 -- Proves what follows from the result of a reader, for the canonical text of its value.
 use Rattle.std.proofs.{Common.{◌≡◌, ℕ, ◌≤◌, ◌<◌, List, length, map, Ok, Err, refl, arith}, lemmas.List.length-map}
-use Rattle.ixdtf_grammar.specs.{declared.located.LocatedError.LocatedError, Handlers.UnhandledRecord, Promises.ReadsTextAt, Views.UnreadUnder, Widths.byte_text}
+use Rattle.ixdtf_grammar.specs.{Handlers.UnhandledRecord, Views.UnreadUnder, Widths.byte_text}
+use Rattle.ixdtf_explanations.specs.declared.located.LocatedError.{LocatedError}
+use Rattle.ixdtf_explanations.specs.LocatedPromises.{ReadsTextAt}
 use Rattle.ixdtf_grammar.specs.language.{Languages.Parsed, Letters.{Text, byte_letter}, Readers.{CoreKind, Reader, Reader.bracketed}, ZoneNames.Zone}
 use Rattle.ixdtf_print.specs.{Canonical.zone_text, Printing.{HasText, FitsWithin}, Zones.{IsIdentifier, IsPrintableZone}}
 use Rattle.ixdtf_print.proofs.theorems.PrintableZones.{zone_fits}

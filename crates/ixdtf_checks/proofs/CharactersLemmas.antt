@@ -6,7 +6,7 @@ use Rattle.std.proofs.lemmas.Str.{encode_ascii, encodes-chars, length-encode, Is
 use Rattle.std.specs.{Str.{IsUtf8, IsCharBoundary, chars, encode_utf8_all}, Char.{len_utf8}}
 use mir.Val.{bool_byte}
 use lib.Utf8.{encode}
-use Rattle.ixdtf_grammar.specs.LocatedTexts.{column_of}
+use Rattle.ixdtf_explanations.specs.LocatedTexts.{column_of}
 use Rattle.ixdtf_checks.specs.Pointed.{begins_character, begun, starts}
 
 pub starts-append : (xs ys : List ℕ) → starts (xs ++ ys) ≡ starts xs + starts ys

@@ -4,7 +4,7 @@ use Rattle.std.proofs.lemmas.{Bool.{cases_lt, lt-ltb, le-ltb, and_left}, Bool.De
 use Rattle.std.proofs.lemmas.Str.{encode_ascii, encodes-chars}
 use Rattle.std.specs.{Str.{IsAscii, IsUtf8, chars, encode_utf8_all}, Prelude.{nat_lt}}
 use lib.Utf8.{encode}
-use Rattle.ixdtf_grammar.specs.LocatedTexts.{shown}
+use Rattle.ixdtf_explanations.specs.LocatedTexts.{shown}
 use Rattle.ixdtf_checks.specs.Pointed.{mask, masked}
 use Rattle.ixdtf_checks.proofs.CharactersLemmas.{encode_2, encode_3, encode_4}
 

@@ -7,7 +7,7 @@ use Rattle.std.proofs.lemmas.Str.{length-encode, len_utf8_bounds, IsCharBoundary
 use Rattle.std.proofs.lemmas.Str.Ascii.{IsAscii-nil, IsAscii-cons}
 use Rattle.std.specs.{Str.{IsAscii, IsUtf8, IsCharBoundary, is_utf8, chars, encode_utf8_all}, Prelude.{nat_lt}}
 use lib.Utf8.{encode}
-use Rattle.ixdtf_grammar.specs.LocatedTexts.{shown, column_of, cut_mark, indent_of, marks_of, pointed_text}
+use Rattle.ixdtf_explanations.specs.LocatedTexts.{shown, column_of, cut_mark, indent_of, marks_of, pointed_text}
 use Rattle.ixdtf_buffers.specs.{Adding.Adds, Lines.newline}
 use Rattle.ixdtf_checks.specs.{declared.marked_text.Window.Window, Pointed.{Fits, IsNear, IsWindow, mark_of, bytes_in, masked, window_lines}, Seen.lines_at}
 use Rattle.ixdtf_checks.proofs.{CharactersLemmas.{column_at, column_beyond}, CsvLemmas.rest_of, MaskedLemmas.{masked_shown}}

@@ -3,8 +3,12 @@ use Rattle.std.proofs.Common.{◌≡◌, ℕ, ◌+◌, ◌≤◌, Bool, false, L
 use Rattle.std.proofs.lemmas.List.{length-take, length-take-le, take-append-le, take-take, take_all}
 use Rattle.std.specs.Prelude.{◌&&◌, min}
 use Rattle.ixdtf_buffers.specs.Adding.{Adds}
-use Rattle.ixdtf_grammar.specs.{Messages.{IsMessage, message_text}, Parts.{IsPart, extent_of}, ReasonNames.reason_name}
-use Rattle.ixdtf_grammar.specs.declared.{located.LocatedReason.LocatedReason, message.Message.Message, part.WrongPart.WrongPart}
+use Rattle.ixdtf_grammar.specs.ReasonNames.{reason_name}
+use Rattle.ixdtf_explanations.specs.Messages.{IsMessage, message_text}
+use Rattle.ixdtf_explanations.specs.Parts.{IsPart, extent_of}
+use Rattle.ixdtf_explanations.specs.declared.located.LocatedReason.{LocatedReason}
+use Rattle.ixdtf_explanations.specs.declared.message.Message.{Message}
+use Rattle.ixdtf_explanations.specs.declared.part.WrongPart.{WrongPart}
 use Rattle.ixdtf_checks.specs.{Parts.{Text, width_of}, Seen.lines_at, Spaced.is_spaced, Verdicts.{Explains}}
 use Rattle.ixdtf_checks.proofs.VerdictLemmas.{shows_part}
 

@@ -2,13 +2,16 @@
 use Rattle.std.proofs.Common.{◌≡◌, ℕ, ◌≤◌, subst, le-ltb, Bool, true, false, if◌then◌else◌, List, [], ◌∷◌, ◌++◌, length, Option, Some, None, inl, inr, refl, sym, ap, ◌∙◌, true≢false, arith, length-append}
 use Rattle.std.proofs.lemmas.{List.{length-map}, Str.{IsUtf8-from_is_utf8, is_utf8-from_IsUtf8}}
 use Rattle.std.specs.Str.{is_utf8}
-use Rattle.ixdtf_grammar.specs.LocatedTexts.{pointed_text}
+use Rattle.ixdtf_explanations.specs.LocatedTexts.{pointed_text}
 use Rattle.ixdtf_buffers.specs.Lines.{newline}
-use Rattle.ixdtf_grammar.specs.{declared.{profile.Profile.Profile, located.LocatedError.LocatedError, part.WrongPart.WrongPart}, Places.HasUnhandledFaultAt}
+use Rattle.ixdtf_grammar.specs.{declared.profile.Profile.Profile, Places.HasUnhandledFaultAt}
+use Rattle.ixdtf_explanations.specs.declared.located.LocatedError.{LocatedError}
+use Rattle.ixdtf_explanations.specs.declared.part.WrongPart.{WrongPart}
 use Rattle.ixdtf_grammar.specs.Widths.{byte_text}
 use Rattle.ixdtf_grammar.specs.language.{Letters.{Text, Letter, byte_letter}, Readers.{Reader}}
 use Rattle.ixdtf_grammar.specs.language.Readers.Reader.{bracketed, parse_rfc3339, parse_offset, parse_identifier, parse_iana_identifier, parse_duration}
-use Rattle.ixdtf_grammar.specs.table.{Faults.{Fault, fault_of_located}}
+use Rattle.ixdtf_grammar.specs.table.Faults.{Fault}
+use Rattle.ixdtf_explanations.specs.LocatedFaults.{fault_of_located}
 use Rattle.ixdtf_instants.specs.declared.instant.Instant.{Instant}
 use Rattle.ixdtf_checks.specs.{Errors.HasError, Seen.lines_at, Kinds.{has_offset, reader_of}, Parts.{Text as Part, line_in}, Refusals.IsRefusal}
 use Rattle.ixdtf_checks.specs.{Verdicts.{Cause, Verdict, ShowsPart, IsOrderVerdict, IsShortVerdict, IsTextVerdict, IsUnread, IsVerdict, Verdict.{accepted, printed, skipped, refused}}, declared.kind.Kind.Kind}

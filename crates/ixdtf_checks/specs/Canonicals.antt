@@ -1,6 +1,7 @@
 -- Defines the canonical texts of each kind.
 use Rattle.std.specs.Prelude.{◌≡◌, ℕ, List, [], map, Result, OnOk, IfErr}
-use Rattle.ixdtf_grammar.specs.{declared.{profile.Profile.Profile, located.LocatedError.LocatedError}, Handlers.UnhandledRecord, Widths.byte_text}
+use Rattle.ixdtf_grammar.specs.{declared.profile.Profile.Profile, Handlers.UnhandledRecord, Widths.byte_text}
+use Rattle.ixdtf_explanations.specs.declared.located.LocatedError.{LocatedError}
 use Rattle.ixdtf_grammar.specs.language.{Letters.{Text, byte_letter}, Languages.{Parsed, Derives, Found.{dated, named}}, ZoneNames.Zone.Name}
 use Rattle.ixdtf_grammar.specs.language.Readers.{Reader, parse, parse_rfc9557, Reader.{parse_rfc3339, parse_iana_identifier}}
 use Rattle.ixdtf_checks.specs.Errors.{HasError}

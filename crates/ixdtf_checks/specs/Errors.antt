@@ -1,7 +1,9 @@
 -- Defines the reason of the error of a text that is read without a handler.
 use Rattle.std.specs.Prelude.{[]}
-use Rattle.ixdtf_grammar.specs.{Places.{HasUnhandledFaultAt, UnhandledReason}, declared.{reason.Reason.Reason, located.LocatedError.LocatedError}}
-use Rattle.ixdtf_grammar.specs.{language.{Letters.Text, Readers.Reader}, table.{Faults.fault_of_located, Outcomes.HasReason}}
+use Rattle.ixdtf_grammar.specs.{Places.{HasUnhandledFaultAt, UnhandledReason}, declared.reason.Reason.Reason}
+use Rattle.ixdtf_explanations.specs.declared.located.LocatedError.{LocatedError}
+use Rattle.ixdtf_grammar.specs.{language.{Letters.Text, Readers.Reader}, table.Outcomes.HasReason}
+use Rattle.ixdtf_explanations.specs.LocatedFaults.{fault_of_located}
 use Rattle.ixdtf_grammar.specs.language.Readers.Reader.{bracketed, parse_rfc3339, parse_offset, parse_identifier, parse_iana_identifier, parse_duration}
 
 -- In the reader without a handler, the text gives an error with the reason.

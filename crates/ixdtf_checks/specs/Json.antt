@@ -1,6 +1,6 @@
 -- Defines the object of JSON about a refused line.
 use Rattle.std.specs.{Prelude.{ℕ, ◌==◌, nat_lt, if◌then◌else◌, List, [], ◌∷◌, ◌++◌, codes, Option, Some, None}, List.flat_map, Fmt.decimal}
-use Rattle.ixdtf_grammar.specs.Messages.{hex_text}
+use Rattle.ixdtf_explanations.specs.Messages.{hex_text}
 use Rattle.ixdtf_checks.specs.Verdicts.{Refusal}
 
 -- This is a control character by its number.

@@ -1,7 +1,7 @@
 -- Defines the lines under a message in the way in which the code makes them. No clause of `check` cites this module.
 use Rattle.std.specs.Prelude.{◌≡◌, ℕ, Bool, true, ◌+◌, ◌-◌, ◌≤◌, ◌==◌, ◌&&◌, min, if◌then◌else◌, List, [], ◌∷◌, ◌++◌, length, take, drop, replicate, nat_lt, IsUtf8}
 use Rattle.std.specs.Str.{chars}
-use Rattle.ixdtf_grammar.specs.LocatedTexts.{shown, column_of, cut_mark, indent_of}
+use Rattle.ixdtf_explanations.specs.LocatedTexts.{shown, column_of, cut_mark, indent_of}
 use Rattle.ixdtf_buffers.specs.Lines.{newline}
 use Rattle.ixdtf_checks.specs.declared.marked_text.Window.{Window}
 

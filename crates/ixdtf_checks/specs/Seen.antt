@@ -1,8 +1,10 @@
 -- Translates a verdict of the code to the verdict of the definitions. No clause of `check` cites this module.
 use Rattle.std.specs.{Prelude.{ℕ, ◌+◌, if◌then◌else◌, List, [], ◌∷◌, ◌++◌, codes, Option, Some, None, option_map}, Str.is_utf8}
-use Rattle.ixdtf_grammar.specs.{LocatedTexts.pointed_text, Messages.message_text}
+use Rattle.ixdtf_explanations.specs.LocatedTexts.{pointed_text}
+use Rattle.ixdtf_explanations.specs.Messages.{message_text}
 use Rattle.ixdtf_buffers.specs.Lines.{newline}
-use Rattle.ixdtf_grammar.specs.{ReasonNames.reason_name, declared.message.Message.{Message}}
+use Rattle.ixdtf_grammar.specs.ReasonNames.{reason_name}
+use Rattle.ixdtf_explanations.specs.declared.message.Message.{Message}
 use Rattle.ixdtf_instants.specs.declared.instant.Instant.{Instant}
 use Rattle.ixdtf_checks.specs.declared.verdict.Verdict.{Verdict as VerdictInCode, TheVariants.{Accepted, Timed, Printed, Skipped, Refused}}
 use Rattle.ixdtf_checks.specs.declared.cause.Cause.{Cause as CauseInCode}

@@ -1,7 +1,11 @@
 -- Defines the message about a text that a reader refuses. There is a message about a space before an offset, because some programs write one.
-use Rattle.ixdtf_grammar.specs.Hints.{IsHint}
+use Rattle.ixdtf_explanations.specs.Hints.{IsHint}
 use Rattle.std.specs.{Prelude.{◌≡◌, ℕ, Bool, false, ◌==◌, ◌&&◌, ◌||◌, nat_le, List, [], ◌∷◌, drop, codes, Option, Some, option_map}, Bool.MatchBool}
-use Rattle.ixdtf_grammar.specs.{declared.{located.LocatedReason.LocatedReason, message.Message.Message, part.WrongPart.WrongPart}, Messages.{IsMessage, message_text}, ReasonNames.reason_name}
+use Rattle.ixdtf_grammar.specs.ReasonNames.{reason_name}
+use Rattle.ixdtf_explanations.specs.declared.located.LocatedReason.{LocatedReason}
+use Rattle.ixdtf_explanations.specs.declared.message.Message.{Message}
+use Rattle.ixdtf_explanations.specs.declared.part.WrongPart.{WrongPart}
+use Rattle.ixdtf_explanations.specs.Messages.{IsMessage, message_text}
 
 abbrev pub is_sign : ℕ → Bool
 is_sign byte = (byte == 43) || (byte == 45)

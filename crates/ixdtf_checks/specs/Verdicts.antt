@@ -1,6 +1,10 @@
 -- Defines the verdict on a line.
 use Rattle.std.specs.{Prelude.{◌≡◌, ◌⊎◌, ℕ, Bool, true, ◌+◌, List, [], ◌∷◌, ◌++◌, length, nat_lt, codes, IsUtf8, Option, Some, None}, Bool.MatchBool}
-use Rattle.ixdtf_grammar.specs.{declared.{profile.Profile.Profile, located.{LocatedError.LocatedError, LocatedReason.LocatedReason}, part.WrongPart.WrongPart}, LocatedTexts.pointed_text, Parts.{IsPart, extent_of}}
+use Rattle.ixdtf_grammar.specs.declared.profile.Profile.{Profile}
+use Rattle.ixdtf_explanations.specs.declared.located.{LocatedError.LocatedError, LocatedReason.LocatedReason}
+use Rattle.ixdtf_explanations.specs.declared.part.WrongPart.{WrongPart}
+use Rattle.ixdtf_explanations.specs.LocatedTexts.{pointed_text}
+use Rattle.ixdtf_explanations.specs.Parts.{IsPart, extent_of}
 use Rattle.ixdtf_grammar.specs.{Widths.{HasUnhandledOutcome, byte_text, UnhandledOutcome.read_as}, language.{Languages.{Found}}}
 use Rattle.ixdtf_grammar.specs.{language.Readers.{Reader}}
 use Rattle.ixdtf_buffers.specs.Lines.{newline}

@@ -2,7 +2,7 @@
 //!
 //! A person reads these reports, and they are few. So this code is plain: it writes each part of a report with a call of its own.
 ghost use Rattle.std.specs.Prelude.{◌<◌, ◌++◌, ℕ, List, length, option_map};
-ghost use Rattle.ixdtf_grammar.specs.Messages.{message_text};
+ghost use Rattle.ixdtf_explanations.specs.Messages.{message_text};
 ghost use Rattle.ixdtf_buffers.specs.Output.{Puts};
 ghost use Rattle.ixdtf_checks.specs.Coloured.{bold, bold_red, but_last, coloured_hint, coloured_lines, coloured_marks};
 ghost use Rattle.ixdtf_checks.specs.declared.request.Format.TheVariants.{Coloured};

@@ -4,7 +4,7 @@
 //! byte of a string, with a call of its own.
 ghost use Rattle.std.specs.Prelude.{◌++◌, ◌∷◌, ℕ, List, [], true, option_map};
 ghost use Rattle.std.specs.List.{flat_map};
-ghost use Rattle.ixdtf_grammar.specs.Messages.{message_text};
+ghost use Rattle.ixdtf_explanations.specs.Messages.{message_text};
 ghost use Rattle.ixdtf_buffers.specs.Lines.{newline};
 ghost use Rattle.ixdtf_buffers.specs.Output.{Puts};
 ghost use Rattle.ixdtf_checks.specs.Json.{json_byte, json_control, json_hint, json_object, json_place, json_string};

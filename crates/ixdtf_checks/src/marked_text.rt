@@ -5,7 +5,7 @@
 //! position on. Each character has at most four bytes.
 ghost use Rattle.std.specs.Prelude.{◌≡◌, ◌<◌, ◌≤◌, ◌+◌, ◌∷◌, ℕ, length, map, take, drop, replicate, slice_index, IsTrue, IsUtf8, false};
 ghost use Rattle.std.specs.Str.{IsAscii, chars};
-ghost use Rattle.ixdtf_grammar.specs.LocatedTexts.{column_of, cut_mark, marks_of};
+ghost use Rattle.ixdtf_explanations.specs.LocatedTexts.{column_of, cut_mark, marks_of};
 ghost use Rattle.ixdtf_buffers.specs.Adding.{Adds};
 ghost use Rattle.ixdtf_buffers.specs.Lines.{newline};
 ghost use Rattle.ixdtf_checks.specs.Pointed.{Fits, IsNear, IsWindow, begins_character, behind_shown, bytes_in, mask, masked, starts, window_lines};

@@ -1,6 +1,6 @@
 //! Writes the report of a line.
 ghost use Rattle.std.specs.Prelude.{◌≡◌, ◌≤◌, ◌++◌, ◌∷◌, ◌+◌, ℕ, List, [], take, None, Some, IfSome, option_map};
-ghost use Rattle.ixdtf_grammar.specs.Messages.{message_text, shown_text};
+ghost use Rattle.ixdtf_explanations.specs.Messages.{message_text, shown_text};
 ghost use Rattle.ixdtf_buffers.specs.Adding.{Adds};
 ghost use Rattle.ixdtf_buffers.specs.Lines.{newline};
 ghost use Rattle.ixdtf_buffers.specs.Output.{Puts};

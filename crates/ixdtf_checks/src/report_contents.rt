@@ -1,8 +1,8 @@
 //! Makes the contents of the report of a refused line, from the cause for which the line is refused.
 ghost use Rattle.std.specs.Prelude.{◌≡◌, ◌≤◌, ◌&&◌, [], Some, drop, length, option_map};
-ghost use Rattle.ixdtf_grammar.specs.declared.part.WrongPart.{WrongPart};
-ghost use Rattle.ixdtf_grammar.specs.Messages.{message_text};
-ghost use Rattle.ixdtf_grammar.specs.Parts.{IsPart, extent_of};
+ghost use Rattle.ixdtf_explanations.specs.declared.part.WrongPart.{WrongPart};
+ghost use Rattle.ixdtf_explanations.specs.Messages.{message_text};
+ghost use Rattle.ixdtf_explanations.specs.Parts.{IsPart, extent_of};
 ghost use Rattle.ixdtf_checks.specs.Csv.{quoting_message, quoting_name};
 ghost use Rattle.ixdtf_checks.specs.Parts.{seen_part};
 ghost use Rattle.ixdtf_checks.specs.Seen.{lines_at, lines_in, seen_cause, seen_refusal, why_name};

@@ -3,7 +3,7 @@
 //!
 //! `Display` of [`Shown`] writes the same bytes. The program makes them without `core::fmt`, because that is faster.
 ghost use Rattle.std.specs.Prelude.{◌≡◌, ◌≤◌, ◌+◌, ◌∷◌, ◌++◌, codes};
-ghost use Rattle.ixdtf_grammar.specs.Messages.{message_text, shown_text, character_text, look_alike, hex_text};
+ghost use Rattle.ixdtf_explanations.specs.Messages.{message_text, shown_text, character_text, look_alike, hex_text};
 ghost use Rattle.ixdtf_buffers.specs.Adding.{Adds};
 ghost use Rattle.ixdtf_buffers.specs.Output.{Puts};
 

@@ -1,4 +1,2 @@
 -- Lemmas that the proofs of functions use.
 pub mod Nanoseconds
-pub mod Numbers
-pub mod Pointed

@@ -1,6 +1,6 @@
 -- Laws about the instants of dates, times and offsets.
 use Rattle.std.specs.Prelude.{◌≡◌, ◌↔◌, ◌⊎◌, ◌+◌, ◌*◌, ◌<◌, ◌≤◌, ◌^◌, min, map, Some, None, pos, neg_ℤ, ◌+ℤ◌, ◌-ℤ◌, ◌<ℤ◌, ◌≤ℤ◌}
-use Rattle.ixdtf_instants.specs.{declared.instant.Instant.{Instant}, Calendar.{IsCivilDate, month_length, day_number_of}, Counts.count_of, Texts.instant_text}
+use Rattle.ixdtf_instants.specs.{declared.instant.Instant.{Instant}, Calendar.{IsCivilDate, month_length, day_number_of}, Counts.count_of, Order.IsBefore, Texts.instant_text}
 use Rattle.ixdtf_grammar.specs.declared.records.{DateRecord.DateRecord, TimeRecord.TimeRecord, UtcOffsetRecordOrZ.{UtcOffsetRecordOrZ, TheVariants.{Z}}}
 use Rattle.ixdtf_grammar.specs.{Handlers.UnhandledRecord, language.{Letters.Letter.Plain, Languages.Parsed, Readers.parse}}
 use Rattle.ixdtf_grammar.specs.Instants.{fraction_nanoseconds, clock_count, offset_count, instant_count}
@@ -76,8 +76,7 @@ InstantsAreInOrder = (date later_date : DateRecord) (time later_time : TimeRecor
 -- Instants with fewer than 1,000,000,000 nanoseconds are ordered by their counts.
 abbrev pub CountsAreInOrder : Type 0
 CountsAreInOrder = (instant later : Instant) → instant.nanoseconds < 10 ^ 9 → later.nanoseconds < 10 ^ 9
-    → ((instant.seconds <ℤ later.seconds) ⊎ ((instant.seconds ≡ later.seconds) × (instant.nanoseconds < later.nanoseconds)))
-    ↔ (count_of instant <ℤ count_of later)
+    → IsBefore instant later ↔ (count_of instant <ℤ count_of later)
 
 -- ---- offsets and leap seconds
 

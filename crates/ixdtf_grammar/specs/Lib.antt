@@ -1,12 +1,7 @@
 pub mod Handlers
-pub mod Hints
 pub mod InstantLaws
 pub mod Instants
 pub mod Laws
-pub mod LocatedEquality
-pub mod LocatedTexts
-pub mod Messages
-pub mod Parts
 pub mod Places
 pub mod Promises
 pub mod ReasonNames

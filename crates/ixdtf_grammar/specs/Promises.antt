@@ -1,11 +1,11 @@
 -- The promises of the public readers. Each record here is one clause of a contract. It says what the reader returned, and what it
 -- left in the parser. The value and the error that the reader returned are each seen through a view.
 use Rattle.std.specs.Prelude.{◌≡◌, ◌↔◌, ℕ, ◌+◌, ◌*◌, List, [], map, Result, Ok, OnOk, IfErr}
-use Rattle.ixdtf_grammar.specs.{declared.located.LocatedError.LocatedError, language.{Letters.Letter, Readers.Reader, Languages.{Parsed, Found, Derives}}}
-use Rattle.ixdtf_grammar.specs.table.{Faults.{Fault, fault_of_located}, Outcomes.{HasFault, HasFaultAt, HasReason, OnlyReason, OnlyPlace, NoRowFits, OnlyFault}}
+use Rattle.ixdtf_grammar.specs.language.{Letters.Letter, Readers.Reader, Languages.{Parsed, Found, Derives}}
+use Rattle.ixdtf_grammar.specs.table.{Faults.{Fault}, Outcomes.{HasFault, NoRowFits, OnlyFault}}
 use Rattle.ixdtf_grammar.specs.declared.reason.Reason.{Reason}
 use Rattle.ixdtf_grammar.specs.Handlers.{Reply, replies_of, value_units, Step, Handled, UnhandledRecord, UnhandledFault, UnhandledOnlyFault}
-use Rattle.ixdtf_grammar.specs.{Places.{HandledAt, UnhandledFaultAt, UnhandledOnlyPlace, UnhandledReason, UnhandledOnlyReason}, Laws.InNoOther}
+use Rattle.ixdtf_grammar.specs.{Places.HandledAt, Laws.InNoOther}
 use Rattle.ixdtf_grammar.specs.Views.{Unread, UnreadUnder, unread_of, most_looks, LeavesBehind, returned_by}
 
 -- This is the clause of a reader without a handler.
@@ -22,23 +22,6 @@ pub record ReadsText {X E : Type 0} (letter : ℕ → Letter) (fault : E → Fau
   pub only : IfErr result (λ e. UnhandledOnlyFault reader (map letter old.rest) (fault e))
   -- After `Ok` there is no remaining input. After an error, the remaining input is unchanged.
   pub leaves : LeavesBehind fault (most_looks old.rest) (unread_of old) result (unread_of new)
-  pub profile : new.profile ≡ old.profile
-
--- This is the clause of a reader without a handler whose error has a position.
-pub record ReadsTextAt {X : Type 0} (letter : ℕ → Letter) (view : X → Parsed) (reader : Reader)
-    (old : UnreadUnder) (result : Result X LocatedError) (new : UnreadUnder) : Type 0 where
-  pub ok : (found : Parsed) → (returned_by fault_of_located view result ≡ Ok found) ↔ UnhandledRecord reader (map letter old.rest) found
-  -- The result is `Err` only with an error and a position that the text gives without a handler.
-  pub err : IfErr result (λ e. UnhandledFaultAt reader (map letter old.rest) (fault_of_located e) e.at)
-  -- The text gives no other error, and no error at another position.
-  pub place : IfErr result (λ e. UnhandledOnlyPlace reader (map letter old.rest) (fault_of_located e) e.at)
-  -- The error has the reason that the text gives without a handler, and the text gives no other reason.
-  pub reason : IfErr result (λ e. UnhandledReason reader (map letter old.rest) e.reason)
-  pub one_reason : IfErr result (λ e. UnhandledOnlyReason reader (map letter old.rest) e.reason)
-  pub no_row : OnOk result (NoRowFits reader (map letter old.rest))
-  pub no_other_reader : OnOk result (InNoOther old.profile reader (map letter old.rest))
-  pub only : IfErr result (λ e. UnhandledOnlyFault reader (map letter old.rest) (fault_of_located e))
-  pub leaves : LeavesBehind fault_of_located (most_looks old.rest) (unread_of old) result (unread_of new)
   pub profile : new.profile ≡ old.profile
 
 -- For a text and these replies of a handler, a reader accesses a code unit at most this number of times. Each code unit in the values
@@ -81,18 +64,3 @@ pub record ReadsPart {X A E : Type 0} (letter : ℕ → Letter) (fault : E → F
   -- The result is `Err` only if no other row fits, and the grammar derives nothing from the text.
   pub only : IfErr result (λ e. OnlyFault reader (map letter old.rest) [] (fault e))
   pub leaves : LeavesBehind fault (most_looks old.rest) old result new
-
--- This is the clause of a reader of texts without brackets whose error has a position.
-pub record ReadsPartAt {X A : Type 0} (letter : ℕ → Letter) (view : X → A) (found : A → Found) (reader : Reader)
-    (old : Unread) (result : Result X LocatedError) (new : Unread) : Type 0 where
-  pub ok : (value : A) → (returned_by fault_of_located view result ≡ Ok value) ↔ Derives reader (map letter old.rest) (found value) []
-  -- The result is `Err` only if a row with this error fits at this position.
-  pub err : IfErr result (λ e. HasFaultAt reader (map letter old.rest) [] (fault_of_located e) e.at)
-  -- No row with another error fits, and no row fits at another position.
-  pub place : IfErr result (λ e. OnlyPlace reader (map letter old.rest) (fault_of_located e) e.at)
-  -- The result is `Err` only if a row fits whose line has the reason, and no row fits whose line has another reason.
-  pub reason : IfErr result (λ e. HasReason reader (map letter old.rest) [] e.reason)
-  pub one_reason : IfErr result (λ e. OnlyReason reader (map letter old.rest) e.reason)
-  pub no_row : OnOk result (NoRowFits reader (map letter old.rest))
-  pub only : IfErr result (λ e. OnlyFault reader (map letter old.rest) [] (fault_of_located e))
-  pub leaves : LeavesBehind fault_of_located (most_looks old.rest) old result new

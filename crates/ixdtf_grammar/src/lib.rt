@@ -1,5 +1,5 @@
 //! The definitions of the grammar of the Internet Extended Date/Time Format (RFC 9557) and of the *fault table*. This crate
-//! also has the types that these definitions use: encodings, records, errors and profiles. A *reader* is a parsing method
+//! also has the types that these definitions use: encodings, records, errors, reasons and profiles. A *reader* is a parsing method
 //! of the library, such as `IxdtfParser::parse`. The fault table says which error a reader returns for a text that is not
 //! in the grammar of the reader.
 //!
@@ -29,25 +29,14 @@
 
 pub mod encoding;
 mod error;
-pub mod hexadecimal;
-mod hint;
 mod instants;
-pub mod located;
-pub mod message;
 pub mod packed;
-pub mod part;
-pub mod pointed;
 pub mod profile;
 mod reason;
 pub mod records;
-mod wording;
 
 pub use error::ParseError;
 pub use ixdtf_instants::Instant;
-pub use located::LocatedError;
-pub use message::{Message, Shown};
-pub use part::WrongPart;
-pub use pointed::PointedText;
 pub use reason::Reason;
 
 /// The result of a reader: the value that it found, or the error.

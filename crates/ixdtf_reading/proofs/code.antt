@@ -7,7 +7,6 @@ pub mod FixedDateTimes
 pub mod FixedPlaces
 pub mod FractionLoop
 pub mod LetterLoops
-pub mod Located
 pub mod OpenDateTimes
 pub mod PairLoops
 pub mod ReadersWithoutPairs

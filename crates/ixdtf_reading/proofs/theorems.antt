@@ -14,3 +14,4 @@ pub mod Rfc3339
 pub mod Rfc3339Texts
 pub mod Rfc9557Texts
 pub mod StopFaults
+pub mod RowPlaces

@@ -6,7 +6,7 @@ ghost use Rattle.ixdtf_grammar.specs.declared.reason.Reason.{Reason};
 ghost use Rattle.ixdtf_reading.specs.reading.Stops.{fault_of_code};
 
 use crate::error_code::Code;
-use ixdtf_grammar::{LocatedError, ParseError, Reason};
+use ixdtf_grammar::{ParseError, Reason};
 
 /// Returns `Err(stop)`.
 ///
@@ -47,24 +47,6 @@ pub trait FromStop {
     fn of_stop(why: StopAt) -> Self
         ensures fault { fault result ≡ fault_of_code why.code }
         ensures place { stands why.reason why.at result };
-}
-
-impl FromStop for LocatedError {
-    ghost use Rattle.ixdtf_grammar.specs.table.Faults.{fault_of_located, stands_behind};
-
-    ghost fault = { fault_of_located };
-
-    ghost stands = { stands_behind };
-
-    /// Makes the error with its position and its reason.
-    #[inline(always)]
-    fn of_stop(why: StopAt) -> LocatedError {
-        LocatedError {
-            error: why.code.error(),
-            at: why.at,
-            reason: why.reason,
-        }
-    }
 }
 
 impl FromStop for ParseError {

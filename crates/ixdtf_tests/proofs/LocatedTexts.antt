@@ -3,7 +3,7 @@ use Rattle.std.proofs.Common.{◌≡◌, ℕ, List, [], ◌∷◌, ◌++◌, rep
 use Rattle.std.specs.Str.{chars}
 use Rattle.std.specs.Fmt.{digits}
 use Rattle.ixdtf_grammar.specs.table.Faults.Fault.{InvalidMonthRange, AbruptEnd}
-use Rattle.ixdtf_grammar.specs.LocatedTexts.{located_text, pointed_text}
+use Rattle.ixdtf_explanations.specs.LocatedTexts.{located_text, pointed_text}
 
 -- ---- the error and its position
 

@@ -1,4 +1,4 @@
-// Made by tools/to_rust.py of crates/ixdtf_grammar/src/hexadecimal.rt. Do not edit.
+// Made by tools/to_rust.py of crates/ixdtf_explanations/src/hexadecimal.rt. Do not edit.
 
 //! The hexadecimal digits of a byte and of a character, as a message shows them.
 

@@ -1,4 +1,4 @@
-// Made by tools/to_rust.py of crates/ixdtf_grammar/src/hint.rt. Do not edit.
+// Made by tools/to_rust.py of crates/ixdtf_explanations/src/hint.rt. Do not edit.
 
 //! Hints that say what to change in a text that a reader refused.
 
@@ -30,7 +30,7 @@ use crate::hint::times::{
 };
 use crate::located::{LocatedError, LocatedReason};
 use crate::message::{Message, Shown, shown_first, shown_part};
-use crate::reason::Reason;
+use crate::Reason;
 
 /// The words of a hint, and what it shows of the text.
 #[derive(Clone, Copy)]

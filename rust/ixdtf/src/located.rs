@@ -1,10 +1,10 @@
-// Made by tools/to_rust.py of crates/ixdtf_grammar/src/located.rt. Do not edit.
+// Made by tools/to_rust.py of crates/ixdtf_explanations/src/located.rt. Do not edit.
 
 //! An error with its position in the text.
 
-use crate::error::ParseError;
 use crate::pointed::PointedText;
-use crate::reason::Reason;
+use crate::{ParseError, Reason};
+use crate::stop::{FromStop, StopAt};
 use core::error::Error;
 use core::fmt;
 use core::str::from_utf8;
@@ -103,6 +103,18 @@ impl LocatedError {
     #[must_use]
     pub fn in_bytes<'a>(&self, bytes: &'a [u8]) -> PointedText<'a> {
         PointedText::new(valid_front(bytes), self.part_in(bytes))
+    }
+}
+
+impl FromStop for LocatedError {
+    /// Makes the error with its position and its reason.
+    #[inline(always)]
+    fn of_stop(why: StopAt) -> LocatedError {
+        LocatedError {
+            error: why.code.error(),
+            at: why.at,
+            reason: why.reason,
+        }
     }
 }
 

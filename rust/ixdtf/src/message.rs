@@ -1,4 +1,4 @@
-// Made by tools/to_rust.py of crates/ixdtf_grammar/src/message.rt. Do not edit.
+// Made by tools/to_rust.py of crates/ixdtf_explanations/src/message.rt. Do not edit.
 
 //! Messages that say what is wrong in a text that a reader refused.
 

@@ -1,10 +1,10 @@
-// Made by tools/to_rust.py of crates/ixdtf_grammar/src/part.rt. Do not edit.
+// Made by tools/to_rust.py of crates/ixdtf_explanations/src/part.rt. Do not edit.
 
 //! The part of a text that is wrong.
 
-use crate::encoding::{EncodingType, Utf8, Utf16};
 use crate::located::{LocatedError, LocatedReason};
-use crate::reason::Reason;
+use crate::Reason;
+use crate::encoding::{EncodingType, Utf8, Utf16};
 
 /// The part of a text that is wrong: the bytes from the index `begin` up to, but not including, the index `end`.
 #[derive(Clone, Copy, Debug, PartialEq, Eq, Hash)]

@@ -1,4 +1,4 @@
-// Made by tools/to_rust.py of crates/ixdtf_grammar/src/pointed.rt. Do not edit.
+// Made by tools/to_rust.py of crates/ixdtf_explanations/src/pointed.rt. Do not edit.
 
 //! A text with marks under one of its parts.
 

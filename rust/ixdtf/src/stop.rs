@@ -3,7 +3,7 @@
 //! Makes the error of a reader from a `Reason`, a code and a position.
 
 use crate::error_code::Code;
-use crate::{LocatedError, ParseError, Reason};
+use crate::{ParseError, Reason};
 
 /// Returns `Err(stop)`.
 ///
@@ -33,18 +33,6 @@ pub struct StopAt {
 pub trait FromStop {
     /// Makes the error.
     fn of_stop(why: StopAt) -> Self;
-}
-
-impl FromStop for LocatedError {
-    /// Makes the error with its position and its reason.
-    #[inline(always)]
-    fn of_stop(why: StopAt) -> LocatedError {
-        LocatedError {
-            error: why.code.error(),
-            at: why.at,
-            reason: why.reason,
-        }
-    }
 }
 
 impl FromStop for ParseError {

@@ -1,8 +1,8 @@
-// Made by tools/to_rust.py of crates/ixdtf_grammar/src/wording.rt. Do not edit.
+// Made by tools/to_rust.py of crates/ixdtf_explanations/src/wording.rt. Do not edit.
 
 //! The words of the message of each reason.
 
-use crate::reason::Reason;
+use crate::Reason;
 
 /// The words of a message, and what it shows of the text.
 #[derive(Clone, Copy)]

@@ -22,14 +22,14 @@ use Rattle.ixdtf_grammar.specs.declared.encoding.private.Sealed as sealed
 use Rattle.ixdtf_grammar.specs.contracts.encoding.private.Sealed.TheBound as sealed_bound
 use Rattle.ixdtf_grammar.specs.contracts.error.ParseError
 use Rattle.ixdtf_grammar.proofs.error.ParseError.TheLaws as error_laws
-use Rattle.ixdtf_grammar.specs.contracts.located.LocatedError
-use Rattle.ixdtf_grammar.proofs.located.LocatedError.TheLaws as located_laws
+use Rattle.ixdtf_explanations.specs.contracts.located.LocatedError
+use Rattle.ixdtf_explanations.proofs.located.LocatedError.TheLaws as located_laws
 use Rattle.ixdtf.specs.declared.parsers.cores.CoreReader as cores
 use Rattle.ixdtf.specs.contracts.parsers.cores.CoreReader.TheBound as cores_bound
 use Rattle.ixdtf_reading.specs.declared.stop.FromStop as raised
 use Rattle.ixdtf_reading.specs.contracts.stop.FromStop.TheBound as raised_bound
 use Rattle.ixdtf_reading.specs.contracts.stop.ParseErrorFromStop.TheImpl as plainly
-use Rattle.ixdtf_reading.specs.contracts.stop.LocatedErrorFromStop.TheImpl as with_place
+use Rattle.ixdtf_explanations.specs.contracts.located.LocatedErrorFromStop.TheImpl as with_place
 use Rattle.ixdtf.specs.contracts.parsers.IxdtfParser
 use Rattle.ixdtf.specs.contracts.parsers.IxdtfParser.parse_with_annotation_handler as R
 use Rattle.ixdtf.specs.contracts.parsers.IxdtfParser.read_as as G

@@ -1,11 +1,15 @@
 -- The contract of a reader of complete texts follows from the contract of the function that reads into a record.
 use Rattle.std.proofs.Common.{◌≡◌, ℕ, ◌+◌, ◌≤◌, map, Result, Ok, Err, refl, arith}
-use Rattle.ixdtf_grammar.specs.{declared.{located.LocatedError.LocatedError, records.IxdtfParseRecord.IxdtfParseRecord}, language.{Letters.{Letter, Text}, Languages.{Parsed, Found}}}
-use Rattle.ixdtf_grammar.specs.{language.Readers.{Reader, CoreKind, Reader.bracketed}, table.Faults.{Fault, fault_of_located}, Handlers.{Step, replies_of}}
-use Rattle.ixdtf_grammar.specs.{Promises.{ReadsText, ReadsTextAt, HandlesText, HandlesTextAt, ReadsPartAt, most_looks_beside}}
+use Rattle.ixdtf_grammar.specs.{declared.records.IxdtfParseRecord.IxdtfParseRecord, language.{Letters.{Letter, Text}, Languages.{Parsed, Found}}}
+use Rattle.ixdtf_explanations.specs.declared.located.LocatedError.{LocatedError}
+use Rattle.ixdtf_grammar.specs.{language.Readers.{Reader, CoreKind, Reader.bracketed}, table.Faults.{Fault}, Handlers.{Step, replies_of}}
+use Rattle.ixdtf_explanations.specs.LocatedFaults.{fault_of_located}
+use Rattle.ixdtf_grammar.specs.Promises.{ReadsText, HandlesText, HandlesTextAt, most_looks_beside}
+use Rattle.ixdtf_explanations.specs.LocatedPromises.{ReadsTextAt, ReadsPartAt}
 use Rattle.ixdtf_grammar.specs.Views.{Unread, UnreadUnder, parsed_of, most_looks, LeavesBehind}
 use Rattle.ixdtf_reading.specs.{declared.stop.StopAt.StopAt, reading.{Chains.{Counting, TextRead}, Looks.{Read, Placed}}}
-use Rattle.ixdtf_reading.proofs.{code.Located.Located, theorems.Handled.{OwnReplies, handled, handled_of, gives_result, handled_accepted, unhandled_form}}
+use Rattle.ixdtf_reading.proofs.theorems.Handled.{OwnReplies, handled, handled_of, gives_result, handled_accepted, unhandled_form}
+use Rattle.ixdtf_explanations.proofs.code.Located.{Located}
 use Rattle.ixdtf_reading.proofs.theorems.HandledAt.{handled_at_ok, handled_at_err, handled_to_at_ok, handled_to_at_err, unhandled_at, unhandled_reason}
 use Rattle.ixdtf_reading.proofs.theorems.{OnePlace.one_unhandled_place, OneReason.one_unhandled_reason}
 use Rattle.ixdtf_grammar.specs.declared.reason.Reason.{Reason}

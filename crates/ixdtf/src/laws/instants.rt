@@ -4,7 +4,10 @@
 //! The laws are about dates, times and offsets, and about the *count* of an instant: the number of nanoseconds from
 //! 1970-01-01T00:00:00Z to the instant.
 
+ghost use Rattle.ixdtf_instants.specs.Order.{ComparesInstants};
 ghost use Rattle.ixdtf_grammar.specs.InstantLaws.{CountsAreInOrder, CountsBeginIn1970, InstantsAreInOrder, NextDayIsADayLater, OffsetsMakeUp, Second60Is59, TextIsReadBack};
+
+use ixdtf_instants::Instant;
 
 /// States that the next day, at the same time and offset, is 86,400 seconds later.
 ///
@@ -24,10 +27,12 @@ pub fn next_day_is_a_day_later()
 /// - `counts`: suppose that two dates exist, and that each has a time. The hours are at most 23, the minutes are at
 ///   most 59, and the seconds are at most 60. Second 60 counts as second 59. Then, at the same offset, one date and
 ///   time comes before the other exactly if the count of its instant is smaller.
-/// - `instants`: suppose that the nanoseconds of two instants are below 1,000,000,000. `Ord` compares the seconds, and
-///   then the nanoseconds. One instant is less than the other in this order exactly if its count is smaller.
+/// - `compared`: `Ord` compares two instants by their seconds, and then by their nanoseconds.
+/// - `instants`: suppose that the nanoseconds of two instants are below 1,000,000,000. One instant is less than the other
+///   in this order exactly if its count is smaller.
 pub fn instants_are_in_order()
     ensures counts { InstantsAreInOrder }
+    ensures compared { ComparesInstants ⟦<Instant as Ord>⟧.cmp }
     ensures instants { CountsAreInOrder }
 {}
 

@@ -5,7 +5,8 @@ ghost use Rattle.ixdtf_grammar.specs.table.Faults.{fault_of};
 ghost use Rattle.ixdtf_grammar.specs.language.Readers.Reader.{parse_rfc3339 as reader_rfc3339};
 ghost use Rattle.ixdtf_grammar.specs.language.Languages.Found.{dated};
 ghost use Rattle.ixdtf_grammar.specs.Views.{unread_of, parsed_of};
-ghost use Rattle.ixdtf_grammar.specs.Promises.{ReadsPart, ReadsPartAt};
+ghost use Rattle.ixdtf_grammar.specs.Promises.{ReadsPart};
+ghost use Rattle.ixdtf_explanations.specs.LocatedPromises.{ReadsPartAt};
 
 use crate::parsers::IxdtfParser;
 use crate::{LocatedError, ParserResult};

@@ -2,7 +2,8 @@
 
 ghost use Rattle.std.specs.Prelude.{◌≡◌, [], ◌∷◌, option_map, IfOk, IfErr};
 ghost use Rattle.std.specs.Option.{option_or};
-ghost use Rattle.ixdtf_grammar.specs.table.Faults.{Fault, fault_of, fault_of_located, stands_behind};
+ghost use Rattle.ixdtf_grammar.specs.table.Faults.{Fault, fault_of};
+ghost use Rattle.ixdtf_explanations.specs.LocatedFaults.{fault_of_located, stands_behind};
 ghost use Rattle.ixdtf_grammar.specs.Handlers.{RefusedBeside, first_calendar, pair_of};
 ghost use Rattle.ixdtf_grammar.specs.language.Readers.{parse as reader_parse, parse_year_month as reader_parse_year_month};
 ghost use Rattle.ixdtf_grammar.specs.language.Readers.{parse_rfc9557 as reader_parse_rfc9557};

@@ -5,11 +5,12 @@ ghost use Rattle.ixdtf_grammar.specs.table.Faults.{fault_of};
 ghost use Rattle.ixdtf_grammar.specs.language.Readers.Reader.{parse_offset, parse_identifier, parse_iana_identifier};
 ghost use Rattle.ixdtf_grammar.specs.language.Languages.{shifted, identified, named};
 ghost use Rattle.ixdtf_grammar.specs.Views.{Unread, zone_of};
-ghost use Rattle.ixdtf_grammar.specs.Promises.{ReadsPart, ReadsPartAt};
+ghost use Rattle.ixdtf_grammar.specs.Promises.{ReadsPart};
+ghost use Rattle.ixdtf_explanations.specs.LocatedPromises.{ReadsPartAt};
 
 use crate::ParserResult;
 use ixdtf_brackets::zone::{parse_iana_identifier_text, parse_identifier_text};
-use ixdtf_grammar::LocatedError;
+use ixdtf_explanations::LocatedError;
 use ixdtf_grammar::encoding::{EncodingType, Utf8, Utf16};
 use ixdtf_grammar::records::{TimeZoneRecord, UtcOffsetRecord};
 use ixdtf_reading::cursor::{Cursor, error_at};

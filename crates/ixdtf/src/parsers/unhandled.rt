@@ -7,7 +7,8 @@ ghost use Rattle.ixdtf_grammar.specs.language.Readers.{parse_rfc9557 as reader_p
 ghost use Rattle.ixdtf_grammar.specs.language.Readers.{parse_month_day as reader_parse_month_day, parse_time as reader_parse_time};
 ghost use Rattle.ixdtf_grammar.specs.language.Readers.Reader.{bracketed};
 ghost use Rattle.ixdtf_grammar.specs.Views.{IsEmptyRecord, parsed_of};
-ghost use Rattle.ixdtf_grammar.specs.Promises.{ReadsText, ReadsTextAt};
+ghost use Rattle.ixdtf_grammar.specs.Promises.{ReadsText};
+ghost use Rattle.ixdtf_explanations.specs.LocatedPromises.{ReadsTextAt};
 ghost use Rattle.ixdtf.specs.Readings.{ReadsUnhandled};
 
 use crate::parsers::{

@@ -1,7 +1,7 @@
 -- The errors as the definitions see them: an error has the bytes of its location, and not an address.
 use Rattle.ixdtf_grammar.specs.declared.error.ParseError.TheVariants as errors
 use Rattle.std.specs.Prelude.{◌≡◌, ℕ, List, Bool, true, false}
-use Rattle.ixdtf_grammar.specs.declared.{error.ParseError.ParseError, located.LocatedError.LocatedError, reason.Reason.Reason}
+use Rattle.ixdtf_grammar.specs.declared.{error.ParseError.ParseError, reason.Reason.Reason}
 
 -- A `Fault` is an error, with the bytes of its location.
 pub data Fault : Type 0 where
@@ -100,14 +100,6 @@ fault_of errors.TimeDurationDesignator = TimeDurationDesignator
 fault_of errors.AmbiguousTimeMonthDay = AmbiguousTimeMonthDay
 fault_of errors.AmbiguousTimeYearMonth = AmbiguousTimeYearMonth
 fault_of errors.InvalidMonthDay = InvalidMonthDay
-
--- This is the `Fault` of an error with a position.
-abbrev pub fault_of_located : LocatedError → Fault
-fault_of_located e = fault_of e.error
-
--- The error has the reason, and is at the position `at`.
-abbrev pub stands_behind : Reason → ℕ → LocatedError → Type 0
-stands_behind reason at e = (e.reason ≡ reason) × (e.at ≡ at)
 
 -- An error without a position agrees with every reason and with every position.
 abbrev pub stands_anywhere : Reason → ℕ → ParseError → Type 0

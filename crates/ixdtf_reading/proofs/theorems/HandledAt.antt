@@ -5,7 +5,7 @@ use Rattle.ixdtf_grammar.specs.{language.{Letters.Text, Brackets.Pair, Languages
 use Rattle.ixdtf_grammar.specs.{Handlers.{Reply, Calls, handed, replies_of, Step}, Places.{GivesFaultAt, GivesReason, HandledAt, HandledToAt, UnhandledFaultAt, UnhandledReason}}
 use Rattle.ixdtf_reading.specs.{declared.stop.StopAt.StopAt, reading.{Chains.{TextGives, TextRead}, Looks.Placed, Stops.{fault_at, fault_of_code}}}
 use Rattle.ixdtf_reading.proofs.theorems.StopFaults.{fault_of_row, fault_of_refusal}
-use Rattle.ixdtf_reading.proofs.code.Located.{left_fits as row_left_fits}
+use Rattle.ixdtf_reading.proofs.theorems.RowPlaces.{left_fits as row_left_fits}
 use Rattle.ixdtf_reading.proofs.theorems.{Handled.{OwnReplies, replies_own, handled_to, handled_to_of}, OnePlace.{one_place, without_place}, OneReason.{one_reason, reason_given}}
 
 -- There are as many replies as annotations.

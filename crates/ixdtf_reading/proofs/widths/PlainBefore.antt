@@ -22,7 +22,8 @@ use Rattle.ixdtf_grammar.proofs.widths.PlainTexts.{plain_with, ◌and_then◌, p
 use Rattle.ixdtf_grammar.proofs.widths.{PlainTexts.{opens_plain, tail_plain}, FirstBad.{Sees, sees_after, Moves, moves_anything, moves_nothing, moves_then}}
 use Rattle.ixdtf_grammar.proofs.widths.FirstBad.{moves_either, moves_first, Stands, alone, ahead, ahead_where, besides, stands_either, never, moved_to}
 use Rattle.ixdtf_grammar.proofs.{widths.{FirstBad.stops_move, PlainLines.plain_line}, theorems.NoRow.BeginsBad}
-use Rattle.ixdtf_reading.proofs.{code.Located.left_is, parts.Fronts.month_day_front_stays}
+use Rattle.ixdtf_reading.proofs.parts.Fronts.{month_day_front_stays}
+use Rattle.ixdtf_reading.proofs.theorems.RowPlaces.{left_is}
 
 -- ---- lines of cores
 

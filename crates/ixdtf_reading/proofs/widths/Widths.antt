@@ -12,7 +12,8 @@ use Rattle.ixdtf_grammar.specs.table.{Faults.Fault.NonAsciiCodePoint, Outcomes.{
 use Rattle.ixdtf_grammar.proofs.{theorems.NoRow.fault_of_bad, widths.FirstBad.{Sees, plain_sees_nothing, sees_after, left_moved}}
 use Rattle.ixdtf_grammar.proofs.widths.{PlainDateTimes.{date_time_plain}, PlainDurations.{duration_plain}}
 use Rattle.ixdtf_grammar.proofs.widths.PlainTexts.{IsPlain, plain_append, signed_plain, zone_plain, plain_name, core_plain, tail_plain}
-use Rattle.ixdtf_reading.proofs.{code.Located.left_fits, theorems.{OnePlace.without_place, Replies.refused_split}}
+use Rattle.ixdtf_reading.proofs.theorems.{OnePlace.without_place, Replies.refused_split}
+use Rattle.ixdtf_reading.proofs.theorems.RowPlaces.{left_fits}
 use Rattle.ixdtf_reading.proofs.{theorems.OneUnhandledOutcome.unhandled_outcome, widths.PlainBefore.{row_moved, fits_move}}
 
 -- ---- numbers

@@ -1,4 +1,4 @@
-// Made by tools/to_rust.py of crates/ixdtf_grammar/src/hint/brackets.rt. Do not edit.
+// Made by tools/to_rust.py of crates/ixdtf_explanations/src/hint/brackets.rt. Do not edit.
 
 //! Hints about the name of a time zone, and about annotations.
 

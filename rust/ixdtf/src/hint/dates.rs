@@ -1,4 +1,4 @@
-// Made by tools/to_rust.py of crates/ixdtf_grammar/src/hint/dates.rt. Do not edit.
+// Made by tools/to_rust.py of crates/ixdtf_explanations/src/hint/dates.rt. Do not edit.
 
 //! Hints about a date, and about what follows it.
 

@@ -1,4 +1,4 @@
-// Made by tools/to_rust.py of crates/ixdtf_grammar/src/hint/offsets.rt. Do not edit.
+// Made by tools/to_rust.py of crates/ixdtf_explanations/src/hint/offsets.rt. Do not edit.
 
 //! Hints about an offset, and about what stands before it and after it.
 

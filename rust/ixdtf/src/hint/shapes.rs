@@ -1,4 +1,4 @@
-// Made by tools/to_rust.py of crates/ixdtf_grammar/src/hint/shapes.rt. Do not edit.
+// Made by tools/to_rust.py of crates/ixdtf_explanations/src/hint/shapes.rt. Do not edit.
 
 //! Tests of the bytes around the position of an error, for example whether an offset begins there.
 

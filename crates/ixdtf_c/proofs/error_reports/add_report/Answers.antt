@@ -1,8 +1,10 @@
 use Rattle.ixdtf_c.proofs.error_reports.add_report.Goals as goal
 use Rattle.std.proofs.Common.{◌≡◌, List, ℕ, ◌++◌, codes, take, Option, None, Some, refl, sym, ap, append-nil}
 use Rattle.std.specs.Str.Lossy.{utf8_valid_len}
-use Rattle.ixdtf_grammar.specs.declared.{part.WrongPart.WrongPart, message.Message.Message}
-use Rattle.ixdtf_grammar.specs.{Messages.message_text, LocatedTexts.pointed_text}
+use Rattle.ixdtf_explanations.specs.declared.part.WrongPart.{WrongPart}
+use Rattle.ixdtf_explanations.specs.declared.message.Message.{Message}
+use Rattle.ixdtf_explanations.specs.Messages.{message_text}
+use Rattle.ixdtf_explanations.specs.LocatedTexts.{pointed_text}
 use Rattle.ixdtf_c.specs.Reported.{report_text}
 use Rattle.ixdtf_c.proofs.Added.{adds_as, adds_then}
 

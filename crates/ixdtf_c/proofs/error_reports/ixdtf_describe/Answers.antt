@@ -1,7 +1,11 @@
 use Rattle.ixdtf_c.proofs.error_reports.ixdtf_describe.Goals as goal
 use Rattle.std.proofs.Common.{◌≡◌, ◌∙◌, ℕ, List, length, min, Option, arith}
-use Rattle.ixdtf_grammar.specs.declared.{reason.Reason.Reason, part.WrongPart.WrongPart, message.Message.Message}
-use Rattle.ixdtf_grammar.specs.{Parts.{IsPart, extent_of}, Messages.IsMessage, Hints.IsHint}
+use Rattle.ixdtf_grammar.specs.declared.reason.Reason.{Reason}
+use Rattle.ixdtf_explanations.specs.declared.part.WrongPart.{WrongPart}
+use Rattle.ixdtf_explanations.specs.declared.message.Message.{Message}
+use Rattle.ixdtf_explanations.specs.Parts.{IsPart, extent_of}
+use Rattle.ixdtf_explanations.specs.Messages.{IsMessage}
+use Rattle.ixdtf_explanations.specs.Hints.{IsHint}
 use Rattle.ixdtf_c.specs.Reported.{Describes, Writes, report_text}
 use Rattle.ixdtf_c.proofs.{Reasoned.same_reason, Reporting.{too_short, written}}
 

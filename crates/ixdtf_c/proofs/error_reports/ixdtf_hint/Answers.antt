@@ -1,7 +1,8 @@
 use Rattle.ixdtf_c.proofs.error_reports.ixdtf_hint.Goals as goal
 use Rattle.std.proofs.Common.{◌≡◌, ◌∙◌, ℕ, List, length, min, Option, arith}
-use Rattle.ixdtf_grammar.specs.declared.{reason.Reason.Reason, message.Message.Message}
-use Rattle.ixdtf_grammar.specs.Hints.{IsHint}
+use Rattle.ixdtf_grammar.specs.declared.reason.Reason.{Reason}
+use Rattle.ixdtf_explanations.specs.declared.message.Message.{Message}
+use Rattle.ixdtf_explanations.specs.Hints.{IsHint}
 use Rattle.ixdtf_c.specs.Reported.{Hints, Writes, hint_text}
 use Rattle.ixdtf_c.proofs.{Reasoned.same_reason, Reporting.{too_short, written}}
 

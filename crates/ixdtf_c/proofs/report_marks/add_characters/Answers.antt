@@ -2,8 +2,8 @@ use Rattle.ixdtf_c.proofs.report_marks.add_characters.Goals as goal
 use Rattle.std.proofs.Common.{◌≡◌, map, take, drop, sym, ap, ◌∙◌}
 use Rattle.std.proofs.lemmas.{Iterator.{YieldsList-from_chars, YieldsList-from_take, Adapters.YieldsList-from_skip, Consumers.YieldsList-end}, List.map-id}
 use Rattle.std.specs.Str.{chars, encode_utf8_all}
-use Rattle.ixdtf_grammar.specs.LocatedTexts.{shown}
-use Rattle.ixdtf_grammar.proofs.code.Pointed.{one_more}
+use Rattle.ixdtf_explanations.specs.LocatedTexts.{shown}
+use Rattle.ixdtf_explanations.proofs.code.Pointed.{one_more}
 use Rattle.ixdtf_c.proofs.Added.{adds_as, adds_then}
 
 pub loop-character-preserved : goal.loop-character-preserved

@@ -2,7 +2,7 @@ use Rattle.ixdtf_c.proofs.report_marks.add_line.Goals as goal
 use Rattle.std.proofs.Common.{length, ap, ◌∙◌, arith}
 use Rattle.std.proofs.lemmas.{Iterator.YieldsList-from_chars, Iterator.Consumers.count_from_yields_List, Str.{encodes-chars, length-le-encodes}}
 use Rattle.std.specs.Str.{chars}
-use Rattle.ixdtf_grammar.proofs.code.Pointed.{line_bytes}
+use Rattle.ixdtf_explanations.proofs.code.Pointed.{line_bytes}
 use Rattle.ixdtf_c.proofs.Added.{adds_as, adds_then}
 
 -- A text has at most as many characters as bytes, and it has fewer than 2 ^ 63 bytes.

@@ -1,5 +1,5 @@
 use Rattle.ixdtf_c.proofs.report_marks.add_pointed.Goals as goal
-use Rattle.ixdtf_grammar.proofs.code.Pointed.{both_lines}
+use Rattle.ixdtf_explanations.proofs.code.Pointed.{both_lines}
 use Rattle.ixdtf_c.proofs.Added.{adds_as, adds_then}
 
 pub returns : goal.returns

@@ -1,7 +1,7 @@
 -- Proves that the parts of the report are written, one after the other.
 use Rattle.ixdtf_checks.proofs.coloured.put_coloured.Goals as goal
 use Rattle.std.specs.Prelude.{option_map}
-use Rattle.ixdtf_grammar.specs.Messages.{message_text}
+use Rattle.ixdtf_explanations.specs.Messages.{message_text}
 use Rattle.ixdtf_buffers.proofs.OutputLemmas.{Puts-after, Puts-exit}
 use Rattle.ixdtf_checks.{specs.Seen.seen_refusal, proofs.ColouredLemmas.reported}
 

@@ -2,7 +2,7 @@
 use Rattle.ixdtf_checks.proofs.json.put_members.Goals as goal
 use Rattle.ixdtf_checks.proofs.JsonLemmas.{Puts-same, object-line, object_put}
 use Rattle.std.specs.Prelude.{option_map}
-use Rattle.ixdtf_grammar.specs.Messages.{message_text}
+use Rattle.ixdtf_explanations.specs.Messages.{message_text}
 use Rattle.ixdtf_checks.specs.Seen.{seen_refusal}
 use Rattle.ixdtf_buffers.proofs.OutputLemmas.{Puts-after, Puts-exit}
 

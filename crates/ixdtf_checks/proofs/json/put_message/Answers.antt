@@ -3,7 +3,7 @@ use Rattle.ixdtf_checks.proofs.json.put_message.Goals as goal
 use Rattle.std.proofs.Common.{sym}
 use Rattle.ixdtf_checks.proofs.JsonLemmas.{Puts-same, string-parts, string_put}
 use Rattle.ixdtf_buffers.proofs.OutputLemmas.{Puts-after, Puts-exit}
-use Rattle.ixdtf_grammar.specs.Messages.{shown_text}
+use Rattle.ixdtf_explanations.specs.Messages.{shown_text}
 
 pub returns-in_err-put : goal.returns-in_err-put
 returns-in_err-put g c = Puts-exit _ c.in_err-put.ensures c.from_residual.ensures.1

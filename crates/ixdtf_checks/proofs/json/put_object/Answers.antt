@@ -2,7 +2,7 @@
 use Rattle.ixdtf_checks.proofs.json.put_object.Goals as goal
 use Rattle.std.proofs.Common.{refl}
 use Rattle.std.specs.Prelude.{option_map}
-use Rattle.ixdtf_grammar.specs.Messages.{message_text}
+use Rattle.ixdtf_explanations.specs.Messages.{message_text}
 use Rattle.ixdtf_checks.specs.{Reports.refusal_of, Seen.seen_refusal}
 use Rattle.ixdtf_checks.specs.declared.request.Format.TheVariants.{Json}
 

@@ -3,7 +3,8 @@ use Rattle.ixdtf_checks.proofs.report.add_unread.Goals as goal
 use Rattle.std.proofs.Common.{◌≡◌, ◌≤◌, ◌+◌, ◌∙◌, sym, drop, arith, false, length, refl}
 use Rattle.std.specs.Prelude.{◌&&◌}
 use Rattle.ixdtf_buffers.proofs.AddingLemmas.{adds_then}
-use Rattle.ixdtf_grammar.specs.{Messages.message_text, ReasonNames.reason_name}
+use Rattle.ixdtf_grammar.specs.ReasonNames.{reason_name}
+use Rattle.ixdtf_explanations.specs.Messages.{message_text}
 use Rattle.ixdtf_checks.specs.{Parts.{seen_part, width_of}, Seen.lines_at, Spaced.is_spaced}
 use Rattle.ixdtf_checks.proofs.UnreadLemmas.{adds_after, adds_keeps, explained, take_shorter}
 

@@ -1,7 +1,7 @@
 -- Proves that what is in the array and the other bytes of the report are written.
 use Rattle.ixdtf_checks.proofs.report.put_after.Goals as goal
 use Rattle.std.proofs.Common.{◌≡◌, ℕ, List, ◌∷◌, ◌++◌, Option, Result, append_assoc, ap, ◌∙◌, refl, take}
-use Rattle.ixdtf_grammar.specs.Messages.{message_text}
+use Rattle.ixdtf_explanations.specs.Messages.{message_text}
 use Rattle.ixdtf_buffers.proofs.{AddingLemmas.adds_then, OutputLemmas.{Puts-after, Puts-exit}}
 use Rattle.ixdtf_buffers.specs.{declared.{error.RunError.RunError, output.Output.Output}, Lines.newline, Output.Puts}
 use Rattle.ixdtf_checks.specs.{Seen.lines_behind, Texts.line_and_column}

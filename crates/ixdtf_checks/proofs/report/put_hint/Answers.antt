@@ -1,7 +1,7 @@
 -- Proves that the bytes of the array and the line with the hint are written.
 use Rattle.ixdtf_checks.proofs.report.put_hint.Goals as goal
 use Rattle.std.proofs.Common.{◌∷◌, [], ◌++◌, append_assoc, ◌∙◌, refl, take, codes}
-use Rattle.ixdtf_grammar.specs.Messages.{message_text}
+use Rattle.ixdtf_explanations.specs.Messages.{message_text}
 use Rattle.ixdtf_buffers.proofs.{AddingLemmas.adds_then, OutputLemmas.{Puts-after, Puts-exit}}
 use Rattle.ixdtf_buffers.specs.Lines.{newline}
 

@@ -2,7 +2,7 @@
 use Rattle.ixdtf_checks.proofs.report.put_lines.Goals as goal
 use Rattle.std.proofs.Common.{◌∷◌, append_assoc, take, Some}
 use Rattle.std.proofs.lemmas.List.{append-nil}
-use Rattle.ixdtf_grammar.specs.Messages.{message_text}
+use Rattle.ixdtf_explanations.specs.Messages.{message_text}
 use Rattle.ixdtf_buffers.specs.Lines.{newline}
 use Rattle.ixdtf_checks.specs.{Seen.lines_in, Verdicts.hint_line}
 

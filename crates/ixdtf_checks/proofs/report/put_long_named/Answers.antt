@@ -2,7 +2,7 @@
 use Rattle.ixdtf_checks.proofs.report.put_long_named.Goals as goal
 use Rattle.std.proofs.Common.{refl}
 use Rattle.std.specs.Prelude.{option_map}
-use Rattle.ixdtf_grammar.specs.Messages.{message_text}
+use Rattle.ixdtf_explanations.specs.Messages.{message_text}
 use Rattle.ixdtf_buffers.proofs.OutputLemmas.{Puts-after, Puts-exit}
 use Rattle.ixdtf_checks.specs.{Seen.{lines_behind, seen_refusal}, Texts.text_of}
 

@@ -2,7 +2,8 @@
 use Rattle.ixdtf_checks.proofs.report_contents.refused_by_reader.Goals as goal
 use Rattle.std.proofs.Common.{◌≡◌, ◌∙◌, sym, subst, length, drop, arith, true, false, refl}
 use Rattle.std.specs.Prelude.{◌&&◌, codes, min}
-use Rattle.ixdtf_grammar.specs.{Messages.message_text, Parts.{IsPart, extent_of}}
+use Rattle.ixdtf_explanations.specs.Messages.{message_text}
+use Rattle.ixdtf_explanations.specs.Parts.{IsPart, extent_of}
 use Rattle.ixdtf_checks.specs.{Parts.seen_part, Spaced.{SaysWhy, is_spaced}}
 use Rattle.ixdtf_checks.proofs.{UnreadLemmas.explained, VerdictLemmas.shows_part}
 

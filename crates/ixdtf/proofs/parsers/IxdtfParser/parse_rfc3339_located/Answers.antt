@@ -1,8 +1,10 @@
 use Rattle.ixdtf.proofs.parsers.IxdtfParser.parse_rfc3339_located.Goals as goal
 use Rattle.std.proofs.Common.{Ok, Err, false, map, refl, rules, arith, ◌∙◌, sym, ap}
-use Rattle.ixdtf_grammar.specs.{language.{Readers.Reader.{parse_rfc3339 as reader_rfc3339}, Languages.Found.dated}, Views.{Unread, parsed_of}, table.Faults.fault_of_located}
+use Rattle.ixdtf_grammar.specs.{language.{Readers.Reader.{parse_rfc3339 as reader_rfc3339}, Languages.Found.dated}, Views.{Unread, parsed_of}}
+use Rattle.ixdtf_explanations.specs.LocatedFaults.{fault_of_located}
 use Rattle.ixdtf_reading.specs.reading.{Looks.error_of, Clauses.Settles, DateTimes.rfc_3339_at}
-use Rattle.ixdtf_reading.proofs.{code.Located.located, to_grammar.DateTimes.rfc_3339_read}
+use Rattle.ixdtf_reading.proofs.to_grammar.DateTimes.{rfc_3339_read}
+use Rattle.ixdtf_explanations.proofs.code.Located.{located}
 use Rattle.ixdtf.proofs.code.Placed.{reads_record, returned_with}
 
 pub returns : goal.returns

@@ -2,7 +2,8 @@ use Rattle.ixdtf_durations.proofs.duration.IsoDurationParser.parse_located.Goals
 use Rattle.std.proofs.Common.{Err, refl, rules, ◌∙◌, sym, ap}
 use Rattle.ixdtf_grammar.specs.{Views.Unread, language.{Readers.Reader.parse_duration, Languages.Found.lasting}}
 use Rattle.ixdtf_reading.specs.reading.{Looks.error_of, Durations.duration_at}
-use Rattle.ixdtf_reading.proofs.{to_grammar.Durations.duration_read, code.Located.located}
+use Rattle.ixdtf_reading.proofs.to_grammar.Durations.{duration_read}
+use Rattle.ixdtf_explanations.proofs.code.Located.{located}
 use Rattle.ixdtf_durations.proofs.code.DurationSteps.{reads_whole}
 
 -- The beginning of a duration was read.

@@ -2,7 +2,8 @@ use Rattle.std.proofs.Common.{◌≡◌, ℕ, List, sym, subst, All, IsTrue}
 use Rattle.ixdtf.specs.Places.{UnhandledFaultAt, UnhandledOnlyPlace}
 use Rattle.ixdtf.specs.Widths.{SamePlaceWhereShared, is_shared, wide_text, byte_text}
 use Rattle.ixdtf.specs.language.Readers.{parse}
-use Rattle.ixdtf.specs.table.Faults.{Fault, fault_of_located}
+use Rattle.ixdtf.specs.table.Faults.{Fault}
+use Rattle.ixdtf.specs.LocatedFaults.{fault_of_located}
 use Rattle.ixdtf_tests.proofs.tests.laws.places_of_both.Goals as goal
 
 -- The position in the bytes is that in the 16-bit code units.

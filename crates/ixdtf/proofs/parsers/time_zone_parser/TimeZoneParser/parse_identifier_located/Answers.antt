@@ -2,7 +2,8 @@ use Rattle.ixdtf.proofs.parsers.time_zone_parser.TimeZoneParser.parse_identifier
 use Rattle.std.proofs.Common.{refl, rules, ◌∙◌, sym, ap}
 use Rattle.ixdtf_grammar.specs.{Views.Unread, language.{Readers.Reader.parse_identifier, Languages.Found.identified}}
 use Rattle.ixdtf_reading.specs.reading.Looks.{error_of}
-use Rattle.ixdtf_reading.proofs.{code.Located.located, to_grammar.ZonesAlone.identifier_read}
+use Rattle.ixdtf_reading.proofs.to_grammar.ZonesAlone.{identifier_read}
+use Rattle.ixdtf_explanations.proofs.code.Located.{located}
 use Rattle.ixdtf.proofs.code.Promised.{part_at}
 
 pub returns : goal.returns

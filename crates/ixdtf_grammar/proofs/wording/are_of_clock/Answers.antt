@@ -1,6 +1,0 @@
-use Rattle.std.proofs.{Common.{rules, tests}, lemmas.{Iterator.YieldsList-from_slice, Iterator.Search.all_from_yields_List}}
-use Rattle.ixdtf_grammar.specs.Messages.{is_of_clock}
-use Rattle.ixdtf_grammar.proofs.wording.are_of_clock.Goals as goal
-
-pub returns : goal.returns
-returns c = all_from_yields_List is_of_clock _ _ c.all.result c.all.ensures.ran (YieldsList-from_slice c.args.bytes.now cc) (λ x b q k. search (rules, tests))
