@@ -1,14 +1,14 @@
 //! A caller that has a handler, but calls only functions of the library for C. It shows that a program does not need a reader
 //! with a handler: a reader that lists the annotations, and a function that checks replies, are enough.
 
-ghost use Rattle.std.specs.Prelude.{◌≡◌, ◌≢◌, ◌≤◌, None, length, map, option_map, Result};
+ghost use Rattle.std.specs.Prelude.{◌≡◌, ◌≢◌, ◌≤◌, ◌<◌, None, length, map, option_map, Result};
 ghost use Rattle.ixdtf_grammar.specs.declared.profile.Profile.TheVariants.{Crate};
 ghost use Rattle.ixdtf.specs.Handlers.{Handled, calendar_value, pair_of};
 ghost use Rattle.ixdtf.specs.language.Letters.{byte_letter};
 ghost use Rattle.ixdtf.specs.language.Readers.{parse};
 ghost use Rattle.ixdtf.specs.language.Languages.{Parsed};
 ghost use Rattle.ixdtf_c.specs.Crossing.{Gives, units_for};
-ghost use Rattle.ixdtf_c.specs.Listing.{Lists};
+ghost use Rattle.ixdtf_c.specs.Listing.{Lists, ListsRecord};
 ghost use Rattle.ixdtf_c.specs.Located.{FaultAt, unplaced};
 ghost use Rattle.ixdtf_c.specs.Narrow.{annotation_by, calendar_by, contents, SameButError};
 ghost use Rattle.ixdtf_c.specs.Turns.{HandsOver, InTurn, StandsAs};
@@ -120,6 +120,8 @@ where
         × Handled (λ unit. unit) F.step handler parse (map byte_letter text.now) (unplaced outcome)
         × StandsAs listed outcome
         × Gives (λ found. found) outcome result (contents out.old) (contents out.new) }
+    ensures short { length annotations.old < count.new → ListsRecord annotation_by Crate parse (map byte_letter text.now)
+        annotations.old annotations.new count.new result (contents out.old) (contents out.new) }
     ensures unchanged { result ≢ 0 → SameButError out.old out.new }
 {
     let before = *out;
