@@ -20,10 +20,10 @@ ghost use Rattle.ixdtf_durations.specs.reading.DurationClauses.{run_from, ReadsO
 
 use crate::date_groups::parse_dates;
 use crate::time_groups::parse_time_groups;
+use ixdtf_explanations::LocatedError;
 use ixdtf_grammar::encoding::{EncodingType, Utf8, Utf16};
 use ixdtf_grammar::profile::Profile;
 use ixdtf_grammar::records::{DateDurationRecord, DurationParseRecord, Sign};
-use ixdtf_explanations::LocatedError;
 use ixdtf_grammar::{ParseError, ParserResult, Reason};
 use ixdtf_reading::classes::{is_ascii_sign, is_duration_designator, is_time_designator};
 use ixdtf_reading::cursor::Cursor;

@@ -4,10 +4,10 @@
 
 use crate::parsers::date_groups::parse_dates;
 use crate::parsers::time_groups::parse_time_groups;
+use crate::LocatedError;
 use crate::encoding::{EncodingType, Utf8, Utf16};
 use crate::parsers::profile::Profile;
 use crate::records::{DateDurationRecord, DurationParseRecord, Sign};
-use crate::LocatedError;
 use crate::{ParseError, ParserResult, Reason};
 use crate::classes::{is_ascii_sign, is_duration_designator, is_time_designator};
 use crate::cursor::Cursor;

@@ -44,6 +44,6 @@ returns-clause-handled g c = λ room.
 
 pub returns-clause-unchanged : goal.returns-clause-unchanged
 returns-clause-unchanged g c = λ refused. elim c.if-read-eq0.branch [
-    | then-read-eq0 w ↦ absurd (refused w.if-read-eq0.true)
-    | else-read-eq0 w ↦ subst (SameButError c.args.out.now) (sym w.out-is) (c.ixdtf_parse_with_annotations-read.ensures.unchanged refused)
-  ]
+  | then-read-eq0 w ↦ absurd (refused w.if-read-eq0.true)
+  | else-read-eq0 w ↦ subst (SameButError c.args.out.now) (sym w.out-is) (c.ixdtf_parse_with_annotations-read.ensures.unchanged refused)
+]
