@@ -4,22 +4,31 @@
     tools/gate_minutes.py                           runs `rt ci`
     taskset -c 0,1 tools/gate_minutes.py rt ci      runs `rt ci` on two processors
 
-Every two seconds, the tool reads the times of all processes that the command started. A process of the prover belongs to the crate that its command
-line names. It checks one of four things: the crate itself, the crate with its tests, the crate before its mutations, or the crate with one mutation.
-The tool does not see what a process used between the last reading and its end. So the sums are a little too low.
+Every two seconds, the tool reads the times of all processes that the command started. A process of the prover, with all that it starts, belongs to
+the crate that its command line names. It checks one of four things: the crate itself, the crate with its tests, the crate before its mutations, or
+the crate with one mutation. The tool does not see what a process used between the last reading and its end. So the rows are a little too low.
 
-The tool prints a table with one row for each crate. Below the table, it prints the sum of all rows, the time of all other processes, and the minutes
-that passed. The output of the command goes to standard error. The exit status is that of the command."""
+The tool prints a table with one row for each crate. Below the table, it prints the sum of all rows, what the system counted for the command, and the
+minutes that passed. The output of the command goes to standard error. The exit status is that of the command."""
 import collections
 import os
 import re
+import resource
 import subprocess
 import sys
 import time
+from typing import NamedTuple
 
 TICKS = os.sysconf('SC_CLK_TCK')
 SECONDS_BETWEEN_READINGS = 2
 PARTS = ('proof', 'with tests', 'start of mutations', 'mutations')
+
+
+class Process(NamedTuple):
+    """A process, the processor seconds that it has used, and those of the processes that it has started and that have ended."""
+    number: int
+    own: float
+    of_ended: float
 
 
 def children():
@@ -33,18 +42,27 @@ def children():
                     fields = file.read().rpartition(')')[2].split()
             except OSError:
                 continue
-            found[int(fields[1])].append((int(name), (int(fields[11]) + int(fields[12])) / TICKS))
+            user, system, ended_user, ended_system = (int(it) / TICKS for it in fields[11:15])
+            found[int(fields[1])].append(Process(int(name), user + system, ended_user + ended_system))
     return found
 
 
-def below(root):
-    """All processes that this one started, directly or not, each with the processor seconds that it has used."""
+def used(process, began):
+    """The processor seconds that a process and all that it started have used."""
+    return process.own + process.of_ended + sum(used(it, began) for it in began[process.number])
+
+
+def provers(root):
+    """The provers that run below a process, each with its part and its processor seconds."""
     began = children()
     left, found = [root], []
     while left:
-        for process, seconds in began[left.pop()]:
-            found.append((process, seconds))
-            left.append(process)
+        for process in began[left.pop()]:
+            part = part_of(process.number)
+            if part is None:
+                left.append(process.number)
+            else:
+                found.append((process.number, part, used(process, began)))
     return found
 
 
@@ -68,30 +86,25 @@ def part_of(process):
 
 
 def watch(command):
-    """Runs the command. Returns its status, the seconds that passed, and for each process its part and its processor seconds."""
+    """Runs the command. Returns its status, the seconds that passed, and for each prover its part and its processor seconds."""
     begin = time.monotonic()
     running = subprocess.Popen(command, stdin=subprocess.DEVNULL, stdout=sys.stderr)
-    seen, parts = {}, {}
+    seen = {}
     while running.poll() is None:
-        for process, seconds in below(running.pid):
-            if parts.get(process) is None:
-                parts[process] = part_of(process)
-            seen[process] = seconds
+        for process, part, seconds in provers(running.pid):
+            seen[process] = part, seconds
         time.sleep(SECONDS_BETWEEN_READINGS)
-    return running.returncode, time.monotonic() - begin, [(parts[it], seconds) for it, seconds in seen.items()]
+    return running.returncode, time.monotonic() - begin, list(seen.values())
 
 
 def main():
     """Runs the command, and prints the table. Returns the exit status of the command."""
     command = sys.argv[1:] or ['rt', 'ci']
     status, seconds, processes = watch(command)
-    minutes, counts, others = collections.Counter(), collections.Counter(), 0.0
-    for part, used in processes:
-        if part is None:
-            others += used / 60
-        else:
-            minutes[part] += used / 60
-            counts[part] += 1
+    minutes, counts = collections.Counter(), collections.Counter()
+    for part, spent in processes:
+        minutes[part] += spent / 60
+        counts[part] += 1
     print(f'| Crate | {" | ".join(it.capitalize() for it in PARTS)} | Number of mutations | Seconds of one mutation |')
     print('|---|---|---|---|---|---|---|')
     for crate in sorted({crate for crate, _ in minutes}):
@@ -99,7 +112,9 @@ def main():
         number = counts[crate, 'mutations']
         each = f'{60 * minutes[crate, "mutations"] / number:.0f}' if number else ''
         print(f'| `{crate}` | {" | ".join(cells)} | {number or ""} | {each} |')
-    print(f'all provers: {sum(minutes.values()):.1f} processor minutes; other processes: {others:.1f} processor minutes; time that passed: {seconds / 60:.1f} minutes')
+    all_of_it = resource.getrusage(resource.RUSAGE_CHILDREN)
+    print(f'all rows: {sum(minutes.values()):.1f} processor minutes; the command, as the system counts: '
+          f'{(all_of_it.ru_utime + all_of_it.ru_stime) / 60:.1f} processor minutes; time that passed: {seconds / 60:.1f} minutes')
     return status
 
 
