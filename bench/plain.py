@@ -111,8 +111,10 @@ def build(checkout):
     write(os.path.join(folder, 'src', 'runtime.rs'), read(os.path.join(BENCH, 'runtime.rs')))
     for name, plain in workloads():
         write(os.path.join(folder, 'src', name), without_later(plain, checkout))
-    subprocess.run(['cargo', 'build', '--quiet', '--offline', '--release', '--jobs', '2'], cwd=folder, check=True)
-    return os.path.join(folder, 'target', 'release', 'ixdtf_bench')
+    target = os.path.join(folder, 'target')
+    # Each checkout has a folder of its own for the build, whatever CARGO_TARGET_DIR is.
+    subprocess.run(['cargo', 'build', '--quiet', '--offline', '--release', '--jobs', '2', '--target-dir', target], cwd=folder, check=True)
+    return os.path.join(target, 'release', 'ixdtf_bench')
 
 
 if __name__ == '__main__':

@@ -75,7 +75,7 @@ def main(words):
     else:
         folder = os.path.join(TOP, 'rust', 'ixdtf_check')
         subprocess.run(['cargo', 'build', '--quiet', '--offline', '--release'], cwd=folder, check=True)
-        program = os.path.join(folder, 'target', 'release', 'ixdtf_check')
+        program = os.path.join(os.environ.get('CARGO_TARGET_DIR', os.path.join(folder, 'target')), 'release', 'ixdtf_check')
     counts = collections.Counter()
     number = 2
     lines = [made_line(made) for _ in range(count)]

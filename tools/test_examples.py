@@ -90,7 +90,7 @@ def program(name: str) -> str:
     """Builds a program with cargo. Returns its path."""
     folder = os.path.join(ROOT, 'rust', name)
     subprocess.run(['cargo', 'build', '--quiet', '--offline'], cwd=folder, check=True)
-    return os.path.join(folder, 'target', 'debug', name)
+    return os.path.join(os.environ.get('CARGO_TARGET_DIR', os.path.join(folder, 'target')), 'debug', name)
 
 
 def printed(name: str, arguments: list[str], given: str, folder: str) -> str:
@@ -292,4 +292,8 @@ def refusal_in(cell: str) -> Optional[tuple[int, str]]:
 
 
 if __name__ == '__main__':
+    if not shutil.which('jq'):
+        print('left out: the commands of docs/PROGRAM.md with jq, because jq is not installed')
+    if not shutil.which('cc'):
+        print('left out: the commands of README.md for C, because no C compiler is installed')
     unittest.main()

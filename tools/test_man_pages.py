@@ -68,4 +68,6 @@ class Pages(unittest.TestCase):
 
 
 if __name__ == '__main__':
+    if not shutil.which('groff'):
+        print('left out: the warnings of groff about the pages in man/, because groff is not installed')
     unittest.main()
