@@ -343,7 +343,7 @@ class Repository(unittest.TestCase):
         self.assertGreater(functions, 200)
 
     def test_each_edit_is_read(self):
-        self.assertGreater(check.findings_in_edits()[1], 400)
+        self.assertGreater(check.findings_in_edits()[1], 50)
 
     def test_each_source_is_read(self):
         rows = check.all_rows()
