@@ -15,13 +15,14 @@ mod word;
 use ixdtf_buffers::error::RunError;
 use no_arguments::arguments_allowed;
 use runner::run;
-use std::io::{Write, stdin, stdout};
+use std::fmt;
+use std::io::{Write, stderr, stdin, stdout};
 use std::process::ExitCode;
 
 fn main() -> ExitCode {
     if !arguments_allowed(std::env::args_os().skip(1).count()) {
-        eprintln!("ixdtf_lines: takes no arguments");
-        eprintln!("{USAGE}");
+        say(format_args!("ixdtf_lines: takes no arguments"));
+        say(format_args!("{USAGE}"));
         return ExitCode::from(2);
     }
     match run(&mut stdin().lock(), &mut standard_output()) {
@@ -51,6 +52,11 @@ const USAGE: &str = "usage: a line of standard input is a word, a space and a te
 
 /// Reports that reading or writing failed.
 fn failed(what: &str) -> ExitCode {
-    eprintln!("ixdtf_lines: {what} failed");
+    say(format_args!("ixdtf_lines: {what} failed"));
     ExitCode::from(1)
+}
+
+/// Writes a line to standard error. If the line cannot be written, the program goes on: nothing is left that could say so.
+fn say(line: fmt::Arguments<'_>) {
+    let _ = writeln!(stderr(), "{line}");
 }
