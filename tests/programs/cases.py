@@ -16,11 +16,11 @@ class CaseError(Exception):
 
 
 class Mark(str):
-    """A mark that does not stand for bytes: `any`, `pause` or `interrupt`."""
+    """A mark that does not stand for bytes. NUMBER is only in lines that are repeated."""
 
 
-ANY, PAUSE, INTERRUPT = Mark('any'), Mark('pause'), Mark('interrupt')
-MARKS = {it: it for it in (ANY, PAUSE, INTERRUPT)}
+ANY, PAUSE, INTERRUPT, NUMBER = Mark('any'), Mark('pause'), Mark('interrupt'), Mark('N')
+MARKS = {it: it for it in (ANY, PAUSE, INTERRUPT, NUMBER)}
 
 
 @dataclasses.dataclass
@@ -63,7 +63,7 @@ class Case:
     open_point: str = ''
 
 
-def value_of(mark: str, number: int) -> object:
+def value_of(mark: str) -> object:
     """What a mark stands for, or None if there is no such mark."""
     if re.fullmatch(r'[0-9A-F]{2}( [0-9A-F]{2})*', mark):
         return bytes.fromhex(mark)
@@ -71,22 +71,20 @@ def value_of(mark: str, number: int) -> object:
         return BYTES[mark]
     if mark in MARKS:
         return MARKS[mark]
-    if mark == 'N' and number:
-        return str(number).encode()
     repeated = re.fullmatch(r'(.+) \* ([0-9]+)', mark)
     if repeated:
         return repeated.group(1).encode() * int(repeated.group(2))
     return None
 
 
-def decoded(line: str, number: int = 0) -> list:
-    """The bytes and the marks of a line or of a word. `number` is the number of the repetition, or 0."""
+def decoded(line: str) -> list:
+    """The bytes and the marks of a line or of a word."""
     parts = []
     for index, part in enumerate(re.split(r'<([^<>]*)>', line)):
         if index % 2 == 0:
             parts.append(part.encode())
             continue
-        value = value_of(part, number)
+        value = value_of(part)
         if value is None:
             raise CaseError(f'there is no mark <{part}>')
         parts.append(value)
@@ -104,13 +102,13 @@ def joined(parts: list) -> list:
     return [b''.join(it) if isinstance(it, list) else it for it in found]
 
 
-def line_parts(line: str, number: int) -> list:
+def line_parts(line: str) -> list:
     """The bytes and the marks of a line of a text, with its newline."""
     if line in ('<pause>', '<interrupt>'):
         return [MARKS[line[1:-1]]]
     if line.endswith('<no newline>'):
-        return decoded(line[:-len('<no newline>')], number)
-    return [*decoded(line, number), b'\n']
+        return decoded(line[:-len('<no newline>')])
+    return [*decoded(line), b'\n']
 
 
 def text_of(lines: list) -> list:
@@ -120,16 +118,18 @@ def text_of(lines: list) -> list:
     while index < len(lines):
         repeated = re.fullmatch(r'<repeat ([0-9]+)>', lines[index])
         if not repeated:
-            parts += line_parts(lines[index], 0)
+            parts += line_parts(lines[index])
             index += 1
             continue
         if '<end>' not in lines[index:]:
             raise CaseError('<repeat> has no <end>')
         end = lines.index('<end>', index)
+        block = joined([part for line in lines[index + 1:end] for part in line_parts(line)])
         for number in range(1, int(repeated.group(1)) + 1):
-            for line in lines[index + 1:end]:
-                parts += line_parts(line, number)
+            parts += [str(number).encode() if part is NUMBER else part for part in block]
         index = end + 1
+    if NUMBER in parts:
+        raise CaseError('<N> is not in lines that are repeated')
     return joined(parts)
 
 

@@ -35,6 +35,8 @@ def expected_text(text: list) -> str:
 
 def matches(text: list, found: bytes) -> bool:
     """Whether the bytes are those of the expected text, in which <any> stands for some bytes of a line."""
+    if ANY not in text:
+        return b''.join(it for it in text if not isinstance(it, Mark)) == found
     pattern = b''.join(b'[^\n]+' if it is ANY else re.escape(it) for it in text if it is ANY or not isinstance(it, Mark))
     return re.fullmatch(pattern, found) is not None
 
