@@ -55,9 +55,9 @@ import sys
 import tempfile
 from concurrent.futures import ThreadPoolExecutor
 
+import processes
 from cases import Case, CaseError, read_cases
 from comparing import differences
-from processes import run_command
 
 FOLDER = os.path.dirname(os.path.abspath(__file__))
 
@@ -84,7 +84,7 @@ def report_on(case: Case, programs: dict) -> str:
     report = []
     for command in case.commands:
         with tempfile.TemporaryDirectory(prefix='ixdtf_case_') as folder:
-            wrong = differences(case, run_command(case, command, programs[command.program], folder))
+            wrong = differences(case, processes.run_command(case, command, programs[command.program], folder))
         if wrong:
             report += [f'FAILED {case.name}', f'$ {command.line}', *wrong, '']
     return '\n'.join(report)
