@@ -1,7 +1,7 @@
 #!/usr/bin/env python3
 """run.py --check PROGRAM --lines PROGRAM [NAME..]: tests the programs ixdtf_check and ixdtf_lines from outside, however they were built.
 
-It runs the cases of the files *.cases beside it, or only those with NAME in `FILE: TITLE`, such as `json` or `fields: A name`. It
+It runs on Unix. It runs the cases of the files *.cases beside it, or only those with NAME in `FILE: TITLE`, such as `json` or `fields: A name`. It
 prints each case that fails, with what is expected and what is found. Its last line is `N passed, M failed`, and its status is 1 if a
 case failed, and 2 if a file of cases or an argument is wrong.
 
@@ -48,7 +48,8 @@ same. These lines can also be in a case:
                           is before must have been written when the pause of standard input with the same number ends.
     <interrupt>           in standard input: like <pause>, and the read that waits for more is interrupted by a signal
 
-A line with only <pause> or <interrupt> is no line of the text."""
+A line with only <pause> or <interrupt> is no line of the text. Only on Linux, reads can be interrupted, writes can be counted, and there
+is /dev/full: elsewhere, the cases with these are left out, and named."""
 import argparse
 import os
 import sys
@@ -56,7 +57,7 @@ import tempfile
 from concurrent.futures import ThreadPoolExecutor
 
 import processes
-from cases import Case, CaseError, read_cases
+from cases import INTERRUPT, Case, CaseError, read_cases
 from comparing import differences
 
 FOLDER = os.path.dirname(os.path.abspath(__file__))
@@ -76,7 +77,19 @@ def cases_in(folder: str, names: list) -> list:
     """The cases of the files of a folder, in order. If there are names, only the cases with one of them in their name."""
     files = sorted(it for it in os.listdir(folder) if it.endswith('.cases'))
     cases = [case for file in files for case in read_cases(os.path.join(folder, file))]
-    return [it for it in cases if not names or any(name in it.name for name in names)]
+    chosen = [it for it in cases if not names or any(name in it.name for name in names)]
+    if sys.platform == 'linux':
+        return chosen
+    for case in chosen:
+        if needs_linux(case):
+            print(f'left out: {case.name}, because this system is not Linux')
+    return [it for it in chosen if not needs_linux(it)]
+
+
+def needs_linux(case: Case) -> bool:
+    """Whether a case can only be run on Linux."""
+    modes = case.stdout.mode, case.stderr.mode
+    return INTERRUPT in case.stdin.text or any(it == 'full' or it.endswith('writes') for it in modes)
 
 
 def report_on(case: Case, programs: dict) -> str:
