@@ -8,7 +8,7 @@ PROGRAMS = ('ixdtf_check', 'ixdtf_lines')
 BYTES = {'CR': b'\r', 'TAB': b'\t', 'ESC': b'\x1b', 'NUL': b'\0', 'SPACE': b' '}
 # how standard input can come, and how an output can be read
 INPUTS = re.compile(r'byte by byte|that fails|from \S+|')
-OUTPUTS = re.compile(r'json|full|closed|until a line|terminal|in [0-9]+ writes|')
+OUTPUTS = re.compile(r'json|full|closed|until a line|terminal|in [0-9]+ writes|with stderr|')
 
 
 class CaseError(Exception):

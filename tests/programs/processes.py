@@ -17,7 +17,7 @@ from cases import INTERRUPT, Case, Command, Mark, Stream, bytes_of
 # a program that has not ended after this number of seconds is ended
 LONGEST_RUN = 120
 # a program that has not read its input, or has not answered, after this number of seconds is not waited for
-LONGEST_PAUSE = 30
+LONGEST_PAUSE = 10
 # the pipes of a case are made, and its program starts, while no other program starts, because for a moment, a new process has a copy of
 # every pipe, and would be a reader of a pipe that nobody should read
 STARTING = threading.Lock()
@@ -228,8 +228,8 @@ def run_command(case: Case, command: Command, program: str, folder: str) -> Foun
     answers = [bytes_of(it) for it in case.stdout.pieces()[:-1]]
     with STARTING:
         stdin, stdout, stderr = Input(case.stdin, folder), Output(case.stdout), Output(case.stderr)
-        process = subprocess.Popen([os.fsencode(program), *command.words], stdin=stdin.handle, stdout=stdout.handle, stderr=stderr.handle,
-                                   cwd=folder, env=environment_of(case))
+        process = subprocess.Popen([os.fsencode(program), *command.words], stdin=stdin.handle, stdout=stdout.handle,
+                                   stderr=subprocess.STDOUT if case.stdout.mode == 'with stderr' else stderr.handle, cwd=folder, env=environment_of(case))
     stdout.start()
     stderr.start()
     writer = threading.Thread(target=stdin.write, args=(process, stdout, answers), daemon=True)

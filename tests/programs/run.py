@@ -1,9 +1,9 @@
 #!/usr/bin/env python3
 """run.py --check PROGRAM --lines PROGRAM [NAME..]: tests the programs ixdtf_check and ixdtf_lines from outside, however they were built.
 
-It runs on Unix. It runs the cases of the files *.cases beside it, or only those with NAME in `FILE: TITLE`, such as `json` or `fields: A name`. It
-prints each case that fails, with what is expected and what is found. Its last line is `N passed, M failed`, and its status is 1 if a
-case failed, and 2 if a file of cases or an argument is wrong.
+It runs on Unix. It runs the cases of the files *.cases beside it, or only those with NAME in `FILE: TITLE`, such as `json` or
+`fields: A field`. It prints each case that fails, with what is expected and what is found. Its last line is `N passed, M failed`, and its
+status is 1 if a case failed, and 2 if a file of cases or an argument is wrong.
 
 A case has a title, a command, and what the command must write. Expected texts come from docs/PROGRAM.md and are counted by hand:
 
@@ -36,9 +36,10 @@ same. These lines can also be in a case:
     stdout until a line   the reader of the output takes one line, and then closes the pipe
     stdout terminal       the output is a terminal
     stdout in N writes    the output comes in at most N writes
+    stdout with stderr    the two outputs are one pipe
 
-`stderr` can be followed by the same words as `stdout`. A line with a `#` at its beginning is a comment. A line of a text begins with a
-`|`, which does not belong to the text, and ends with a newline. These marks stand for what cannot be seen or typed:
+Except for the last one, `stderr` can be followed by the same words as `stdout`. A line with a `#` at its beginning is a comment. A line
+of a text begins with a `|`, which does not belong to the text, and ends with a newline. These marks stand for what cannot be seen or typed:
 
     <0D>, <EF BB BF>      these bytes            <CR> <TAB> <ESC> <NUL> <SPACE>   the byte of this name
     <2 * 65536>           65,536 times `2`       <no newline>    at the end of a line: no newline ends it
