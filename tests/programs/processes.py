@@ -15,7 +15,7 @@ import tty
 from cases import INTERRUPT, Case, Command, Mark, Stream, bytes_of
 
 # a program that has not ended after this number of seconds is ended
-LONGEST_RUN = 120
+LONGEST_RUN = 60
 # a program that has not read its input, or has not answered, after this number of seconds is not waited for
 LONGEST_PAUSE = 10
 # the pipes of a case are made, and its program starts, while no other program starts, because for a moment, a new process has a copy of
@@ -133,7 +133,8 @@ class Input:
             # the program does not read any more
             pass
         if self.stream.mode == 'that fails':
-            process.wait(LONGEST_RUN)
+            # an end of the input would be no failure
+            process.wait()
         os.close(self.ours)
 
     def write_pieces(self, process: subprocess.Popen, stdout: Output, answers: list) -> None:
