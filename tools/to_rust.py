@@ -177,12 +177,12 @@ KEYWORDS = set('pub if match while for in return let else'.split())
 # src/place.rs of the buffers
 CALLED = {'handler', 'to_c', 'from_c', 'place_of', 'pass_many'}
 STD_PATHS = {'std::str::from_utf8', 'std::fmt', 'std::error::Error', 'std::marker::PhantomData', 'std::mem::replace', 'std::fmt::Debug', 'std::io::{Read,Write}',
-             'std::io::Write', 'std::io::Read', 'std::fmt::Write', 'std::str', 'std::hash::Hash', 'std::hash::{Hash,Hasher}'}
+             'std::io::Write', 'std::io::Read', 'std::io::{ErrorKind,Read}', 'std::io::{ErrorKind,Write}', 'std::fmt::Write', 'std::str', 'std::hash::Hash', 'std::hash::{Hash,Hasher}'}
 STD_METHODS = set('get len split_at is_ascii_digit is_ascii_alphabetic is_ascii_lowercase write_str as_bytes then_some pow is_ok is_err'
                   ' is_none to_le_bytes saturating_add saturating_sub min max map copied checked_mul checked_add unsigned_abs'
                   ' is_ascii_alphanumeric as_slice iter position all contains first is_empty valid_up_to copy_from_slice read write flush digit_count leading_value'
                   ' chars len_utf8 is_control encode_utf8 last is_some unwrap_or starts_with parse checked_sub ok max as_ref copy_within is_ascii ilog10 split_once enumerate'
-                  ' hash into is_ascii_graphic wrapping_sub div_euclid rem_euclid eq_ignore_ascii_case is_ascii_uppercase find'.split())
+                  ' hash into kind is_ascii_graphic wrapping_sub div_euclid rem_euclid eq_ignore_ascii_case is_ascii_uppercase find'.split())
 # methods of the iterators over the characters of a text, and the heads of the types that they return
 ON_CHARACTERS = {('Chars', 'next'): 'Option', ('Chars', 'take'): 'Chars', ('Chars', 'skip'): 'Chars', ('Chars', 'count'): 'usize'}
 CALLED_ON_CHARACTERS = {method for _, method in ON_CHARACTERS}

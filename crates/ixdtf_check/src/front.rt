@@ -3,7 +3,7 @@ ghost use Rattle.std.specs.Prelude.{◌≤◌};
 
 use ixdtf_buffers::place::place_of;
 use std::io;
-use std::io::Read;
+use std::io::{ErrorKind, Read};
 
 /// The greatest number of bytes that are read ahead. A longer line is not accepted in any case.
 const ROOM: usize = 65536;
@@ -34,17 +34,18 @@ impl<'r, R: Read> Front<'r, R> {
     }
 
     /// Reads the first line of the other reader, and returns it without its newline. If the line has more than 65,536 bytes, returns
-    /// its first 65,536 bytes.
+    /// its first 65,536 bytes. If a signal interrupts a read, the read is tried again.
     pub fn first_line(&mut self) -> io::Result<&[u8]> {
-        for _ in 0..ROOM {
+        for _ in 0..u64::MAX {
             if self.end == ROOM || place_of(b'\n', &self.bytes[..self.end]).is_some() {
                 break;
             }
-            let count = self.inner.read(&mut self.bytes[self.end..])?;
-            if count == 0 {
-                break;
+            match self.inner.read(&mut self.bytes[self.end..]) {
+                Ok(0) => break,
+                Ok(count) => self.end = ROOM.min(self.end.saturating_add(count)),
+                Err(error) if error.kind() == ErrorKind::Interrupted => {}
+                Err(error) => return Err(error),
             }
-            self.end = ROOM.min(self.end.saturating_add(count));
         }
         let read = &self.bytes[..self.end];
         match place_of(b'\n', read) {

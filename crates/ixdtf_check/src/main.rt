@@ -14,7 +14,7 @@ use ixdtf_checks::request::{Extent, Request};
 use ixdtf_checks::tally::Tally;
 use std::env::VarError;
 use std::fs::File;
-use std::io::{Eprint, IsTerminal, Read};
+use std::io::{Eprint, ErrorKind, IsTerminal, Read};
 use std::process::ExitCode;
 use std::{env, fmt};
 use watched::Watched;
@@ -183,11 +183,17 @@ fn shows_colors(rt: &HostRuntime) -> bool {
     !is_forbidden && !is_dumb
 }
 
-/// Writes a text that an option asks for, such as the usage, to standard output.
+/// Writes a text that an option asks for, such as the usage, to standard output. If it cannot be written, says why, unless nobody reads
+/// standard output.
 fn show(rt: &HostRuntime, text: &str) -> ExitCode {
     match println!(rt; "{text}") {
         Ok(()) => ExitCode::SUCCESS,
-        Err(_) => ExitCode::from(2),
+        Err(error) => {
+            if error.kind() != ErrorKind::BrokenPipe {
+                let _ = eprintln!(rt; "ixdtf_check: standard output: {error}");
+            }
+            ExitCode::from(2)
+        }
     }
 }
 

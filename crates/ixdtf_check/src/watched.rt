@@ -1,9 +1,10 @@
-//! A reader or a writer whose last error is kept.
+//! A reader or a writer that keeps the error with which it ended.
 
 use std::io;
 use std::io::{ErrorKind, Read, Write};
 
-/// A reader or a writer that keeps the error of its last call that failed.
+/// A reader or a writer that keeps the error of its last call, if this call failed. So it does not keep the error of a read or a write that
+/// succeeded when it was tried again.
 #[derive(Drop)]
 pub struct Watched<'r, R> {
     inner: &'r mut R,
@@ -16,7 +17,7 @@ impl<'r, R> Watched<'r, R> {
         Watched { inner, error: None }
     }
 
-    /// Returns the error of the last call that failed. Returns `None` if no call has failed.
+    /// Returns the error of the last call. Returns `None` if it did not fail.
     pub fn error(&self) -> Option<io::Error> {
         self.error
     }
@@ -34,7 +35,10 @@ impl<'r, R> Watched<'r, R> {
 impl<R: Read> Read for Watched<'_, R> {
     fn read(&mut self, buf: &mut [u8]) -> io::Result<usize> {
         match self.inner.read(buf) {
-            Ok(count) => Ok(count),
+            Ok(count) => {
+                self.error = None;
+                Ok(count)
+            }
             Err(error) => {
                 self.error = Some(error);
                 Err(error)
@@ -46,7 +50,10 @@ impl<R: Read> Read for Watched<'_, R> {
 impl<W: Write> Write for Watched<'_, W> {
     fn write(&mut self, buf: &[u8]) -> io::Result<usize> {
         match self.inner.write(buf) {
-            Ok(count) => Ok(count),
+            Ok(count) => {
+                self.error = None;
+                Ok(count)
+            }
             Err(error) => {
                 self.error = Some(error);
                 Err(error)

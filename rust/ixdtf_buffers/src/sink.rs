@@ -3,7 +3,7 @@
 //! The sinks to which a run writes.
 
 use crate::error::RunError;
-use std::io::Write;
+use std::io::{ErrorKind, Write};
 
 /// A sink to which a run writes: any `Write`, or a sink in memory.
 pub trait Sink {
@@ -17,11 +17,16 @@ pub trait Sink {
 }
 
 impl<W: Write> Sink for W {
+    /// If a signal interrupts a write, the write is tried again.
     fn write_some(&mut self, bytes: &[u8]) -> Result<usize, RunError> {
-        match self.write(bytes) {
-            Ok(count) if count > 0 || bytes.is_empty() => Ok(count),
-            Ok(_) | Err(_) => Err(RunError::Write),
+        for _ in 0..u64::MAX {
+            match self.write(bytes) {
+                Ok(count) if count > 0 || bytes.is_empty() => return Ok(count),
+                Err(error) if error.kind() == ErrorKind::Interrupted => {}
+                Ok(_) | Err(_) => return Err(RunError::Write),
+            }
         }
+        Err(RunError::Write)
     }
 
     fn flush_all(&mut self) -> Result<(), RunError> {

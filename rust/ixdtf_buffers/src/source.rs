@@ -3,7 +3,7 @@
 //! The sources from which a run reads.
 
 use crate::error::RunError;
-use std::io::Read;
+use std::io::{ErrorKind, Read};
 
 /// A source from which a run reads: any `Read`, or bytes in memory.
 pub trait Source {
@@ -15,10 +15,15 @@ pub trait Source {
 }
 
 impl<R: Read> Source for R {
+    /// If a signal interrupts a read, the read is tried again.
     fn read_some(&mut self, input: &mut [u8]) -> Result<usize, RunError> {
-        match self.read(input) {
-            Ok(count) => Ok(count),
-            Err(_) => Err(RunError::Read),
+        for _ in 0..u64::MAX {
+            match self.read(input) {
+                Ok(count) => return Ok(count),
+                Err(error) if error.kind() == ErrorKind::Interrupted => {}
+                Err(_) => return Err(RunError::Read),
+            }
         }
+        Err(RunError::Read)
     }
 }

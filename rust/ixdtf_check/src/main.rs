@@ -198,11 +198,16 @@ fn say(line: fmt::Arguments<'_>) {
     let _ = writeln!(stderr(), "{line}");
 }
 
-/// Writes the usage or the version to standard output.
+/// Writes the usage or the version to standard output. If it cannot be written, says why, unless nobody reads standard output.
 fn show(text: &str) -> ExitCode {
     match writeln!(stdout(), "{text}") {
         Ok(()) => ExitCode::SUCCESS,
-        Err(_) => ExitCode::from(2),
+        Err(error) => {
+            if error.kind() != ErrorKind::BrokenPipe {
+                say(format_args!("ixdtf_check: standard output: {error}"));
+            }
+            ExitCode::from(2)
+        }
     }
 }
 
@@ -285,14 +290,17 @@ fn check_reader<R: Read>(
     }
 }
 
-/// Reads the first line, and perhaps some bytes after it. If the first line is too long, reads only its first bytes.
+/// Reads the first line, and perhaps some bytes after it. If the first line is too long, reads only its first bytes. If a signal interrupts a
+/// read, the read is tried again.
 fn front_of<R: Read>(reader: &mut R) -> io::Result<Vec<u8>> {
     let mut front = vec![0; LINE_LIMIT];
     let mut count = 0;
     while count < front.len() && !front[..count].contains(&b'\n') {
-        match reader.read(&mut front[count..])? {
-            0 => break,
-            more => count += more,
+        match reader.read(&mut front[count..]) {
+            Ok(0) => break,
+            Ok(more) => count += more,
+            Err(error) if error.kind() == ErrorKind::Interrupted => {}
+            Err(error) => return Err(error),
         }
     }
     front.truncate(count);
@@ -331,38 +339,36 @@ fn complain<D: Display>(name: &str, why: D, outcome: &mut Outcome) {
     say(format_args!("ixdtf_check: {name}: {why}"));
 }
 
-/// A reader or a writer that keeps the error of a call that failed.
+/// A reader or a writer that keeps the error of its last call, if this call failed. So it does not keep the error of a read or a write that
+/// succeeded when it was tried again.
 struct Watched<'r, R> {
     inner: &'r mut R,
     error: Option<io::Error>,
 }
 
 impl<R> Watched<'_, R> {
-    /// Keeps the error of a call, if the call failed. The caller gets an error of the same kind.
-    fn keep<T>(&mut self, result: io::Result<T>) -> io::Result<T> {
-        result.map_err(|error| {
-            let kind = error.kind();
-            self.error = Some(error);
-            io::Error::from(kind)
-        })
+    /// Keeps the error of a call. Returns an error of the same kind.
+    fn keep(&mut self, error: io::Error) -> io::Error {
+        let kind = error.kind();
+        self.error = Some(error);
+        io::Error::from(kind)
     }
 }
 
 impl<R: Read> Read for Watched<'_, R> {
     fn read(&mut self, buf: &mut [u8]) -> io::Result<usize> {
-        let count = self.inner.read(buf);
-        self.keep(count)
+        self.error = None;
+        self.inner.read(buf).map_err(|error| self.keep(error))
     }
 }
 
 impl<W: Write> Write for Watched<'_, W> {
     fn write(&mut self, buf: &[u8]) -> io::Result<usize> {
-        let count = self.inner.write(buf);
-        self.keep(count)
+        self.error = None;
+        self.inner.write(buf).map_err(|error| self.keep(error))
     }
 
     fn flush(&mut self) -> io::Result<()> {
-        let flushed = self.inner.flush();
-        self.keep(flushed)
+        self.inner.flush().map_err(|error| self.keep(error))
     }
 }
