@@ -152,19 +152,9 @@ def camel(name: str) -> str:
     return ''.join(word[:1].upper() + word[1:] for word in name.split('_'))
 
 
-# the beginnings of reasons for the lines of clocks
-CLOCKS = {'': '', 'Time': '', 'Offset': 'Offset', 'MinuteOffset': 'ZoneOffset'}
-
-
 def reason_name(line: str) -> str:
-    """The name of the reason of a line of the fault table, or of an annotation that is refused."""
-    name, _, of = line.partition(' ')
-    # Two lines have one reason.
-    name = {'first_dots_form': 'first_name_form', 'group_value_range': 'group_range'}.get(name, name)
-    if of in CLOCKS:
-        return CLOCKS[of] + camel(name)
-    field = camel(of.removesuffix('field'))
-    return f'After{field}Field' if name == 'after_field' else field + camel(name)
+    """The variant of `Reason` for a line of the fault table, or for an annotation that is refused."""
+    return camel(places.reason_name(line))
 
 
 LONE_SURROGATE = re.compile('[\ud800-\udbff](?![\udc00-\udfff])|(?<![\ud800-\udbff])[\udc00-\udfff]')

@@ -7,7 +7,9 @@ does not read a text step by step. It has the productions of the grammar and the
 with the names of the documents. To find the error of a text, it looks for the rows that fit the text.
 
 For each line it prints `ok` if the reader accepts the text. Otherwise it prints `error`, the text of the error, ` at ` and the
-position. Some lines have an answer that comes from no reader, for example lines with an unknown word. The tool gives the same answers.
+position. If `explain` and a space are before the word, it prints `error`, the position, the part that is wrong and the name of the reason,
+as ixdtf_lines does. Some lines have an answer that comes from no reader, for example lines with an unknown word. The tool gives the same
+answers.
 The file `-` is standard input. If there is no file, the tool reads standard input. With --utf16, each text is UTF-8, and the readers of
 16-bit text get it as UTF-16. A byte that is not UTF-8 becomes one bad code unit. The exit status is 0 if all files can be read.
 
@@ -1082,7 +1084,8 @@ LONGEST_LINE = 4096
 WORDS = {'parse': 'parse', 'year-month': 'parse_year_month', 'month-day': 'parse_month_day', 'time': 'parse_time',
          'offset': 'parse_offset', 'zone': 'parse_identifier', 'iana': 'parse_iana_identifier', 'duration': 'duration',
          'canonical': 'parse', 'rfc3339': 'parse_rfc3339', 'rfc9557': 'parse_rfc9557', 'zone-name': 'parse_iana_identifier',
-         'canonical-offset': 'parse_offset', 'canonical-zone': 'parse_identifier', 'canonical-duration': 'duration', 'instant': 'parse'}
+         'canonical-offset': 'parse_offset', 'canonical-zone': 'parse_identifier', 'canonical-duration': 'duration', 'instant': 'parse',
+         'canonical-time': 'parse_time', 'canonical-year-month': 'parse_year_month', 'canonical-month-day': 'parse_month_day'}
 STRICT_WORDS = {'strict-month-day': 'parse_month_day', 'strict-time': 'parse_time', 'strict-duration': 'duration'}
 
 
@@ -1093,13 +1096,35 @@ def utf16_units(text: bytes) -> list[int]:
 
 
 REASONS, REPORTS = '--reasons', '--reports'
+EXPLAIN = b'explain '
+
+
+# the beginning of the name of a reason, for the part of the text to which its line belongs
+FRONTS = {'': '', 'Time': '', 'Offset': 'offset_', 'MinuteOffset': 'zone_offset_'}
+# the names of lines that are not the names of their reasons. `first_dots_form` and `first_name_form` have the same reason.
+OTHER_NAMES = {'first_dots_form': 'first_name_form', 'group_value_range': 'group_range', 'field_digits': 'digits', 'field_range': 'range'}
+
+
+def reason_name(line: str) -> str:
+    """The name of the reason of a line, or of the error of a refused reply."""
+    name, _, part = re.sub('(?<=[a-z])(?=[A-Z])', '_', line).lower().partition(' ')
+    if name == 'after_field':
+        return f'after_{part}'
+    return FRONTS.get(line.partition(' ')[2], f'{part}_') + OTHER_NAMES.get(name, name)
+
+
+def explanation(found: Refusal) -> str:
+    """The answer to `explain` for a text that a reader refuses."""
+    reason = found.reason
+    return f'error at={found.fault.place} part={reason.begin}..{reason.end} reason={reason_name(reason.line)}'
 
 
 def answer(protocol_line: bytes, wide: bool = False, says: Optional[str] = None) -> str:
     """The answer to a line. `says` is an option that asks for the reason, or None."""
     if len(protocol_line) > LONGEST_LINE:
         return 'error line too long'
-    word, space, text = protocol_line.partition(b' ')
+    explains = protocol_line.startswith(EXPLAIN)
+    word, space, text = protocol_line[len(EXPLAIN) if explains else 0:].partition(b' ')
     word = word.decode('latin-1')
     strict = word in STRICT_WORDS
     reader = STRICT_WORDS.get(word) if strict else WORDS.get(word)
@@ -1109,6 +1134,8 @@ def answer(protocol_line: bytes, wide: bool = False, says: Optional[str] = None)
     found = refusal(reader, units, wide, strict)
     if found is None:
         return OK
+    if explains:
+        return explanation(found)
     if says is None:
         return f'error {found.fault}'
     first, *more = report(reader, found, units, wide, strict)

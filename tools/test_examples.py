@@ -241,17 +241,8 @@ def rows_of_places(reader: str) -> list[dict[str, str]]:
 
 
 def reason_name(row: dict[str, str]) -> str:
-    """The name of the reason of a row of tools/places.tsv: the name of its line, with a word for the part of the text to which the line belongs. If
-    a reply is refused, it is the name of the error."""
-    line, _, part = row['line'].partition(' ')
-    if line == 'reply':
-        return re.sub('(?<=[a-z])(?=[A-Z])', '_', row['error']).lower()
-    if line == 'after_field':
-        return f'after_{part}'
-    front = {'': '', 'Time': '', 'Offset': 'offset_', 'MinuteOffset': 'zone_offset_', 'date': 'date_', 'time': 'time_'}.get(part, f'{part}_')
-    # The library has one reason for a name with a part of dots and for a name with another wrong part.
-    others = {'first_dots_form': 'first_name_form', 'group_value_range': 'group_range', 'field_digits': 'digits', 'field_range': 'range'}
-    return front + others.get(line, line)
+    """The name of the reason of a row of tools/places.tsv. If a reply is refused, it is the name of the error."""
+    return places.reason_name(row['error'] if row['line'] == 'reply' else row['line'])
 
 
 def report_of(found: places.Refusal, text: str) -> tuple[int, str]:

@@ -867,6 +867,29 @@ class Program(unittest.TestCase):
         marks = [['2024-13-01', '     ^^'], ['P4294967296y', ' ^^^^^^^^^^']]
         self.assertEqual(self.run_on(given, '--reports'), reasons_of[:2] + marks[0] + reasons_of[2:] + marks[1])
 
+    def test_explanations(self):
+        for line, said in {
+            'parse 2024-03-02': 'ok',
+            'parse 2024-13-01': 'error at=7 part=5..7 reason=month_range',
+            'parse 2020-01-01T2x': 'error at=12 part=12..13 reason=hour_digit',
+            'time 1200': 'error at=4 part=0..4 reason=time_reads_as_month_day',
+            'strict-time 1200': 'ok',
+            'zone +24': 'error at=3 part=1..3 reason=zone_offset_hour_range',
+            'canonical-year-month 2024': 'error at=4 part=4..4 reason=after_year_in_year_month',
+            'rfc3339 2024-03-02T08:48Z': 'error at=16 part=16..17 reason=after_minute_field',
+            'parse 2020-01-01[!a=b]': 'error at=16 part=10..16 reason=unrecognized_critical',
+            'duration P4294967296y': 'error at=12 part=1..11 reason=date_unit_range',
+            'duration PT5M4H': 'error at=6 part=4..6 reason=time_unit_order',
+            'hello x': 'error unknown reader',
+            'parse': 'error unknown reader',
+            'explain parse 2024': 'error unknown reader',
+            ' parse 2024': 'error unknown reader',
+        }.items():
+            self.assertEqual(places.answer(f'explain {line}'.encode()), said, line)
+        self.assertEqual(places.answer(b'explain'), 'error unknown reader')
+        self.assertEqual(places.answer(b'explain parse ' + b'0' * 4082), 'error at=6 part=4..6 reason=month_range')
+        self.assertEqual(places.answer(b'explain parse ' + b'0' * 4083), 'error line too long')
+
     def test_every_byte_of_the_text_counts(self):
         self.assertEqual(places.answer(b'parse 2024-03-02\r'), 'error Unexpected character found after parsing was completed. at 10')
         self.assertEqual(places.answer(b'parse 2024-03-02 '), 'error Parsing ended abruptly while parsing digit at 11')

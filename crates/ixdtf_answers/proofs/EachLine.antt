@@ -4,11 +4,12 @@ use Rattle.std.proofs.{Common.{refl, sym, ap, subst, true≢false, ◌∙◌, in
 use Rattle.std.specs.Bool.{MatchBool}
 use Rattle.ixdtf.specs.Widths.{UnhandledOutcome, HasUnhandledOutcome, UnhandledOutcome.{read_as, faulted}}
 use Rattle.ixdtf_reading.proofs.theorems.OneUnhandledOutcome.{one_unhandled_outcome}
-use Rattle.ixdtf_answers.specs.Answer.{line_limit, too_long, unknown_reader, is_space, letters, read_answer_of, error_answer_of, IsOutcome}
-use Rattle.ixdtf_answers.specs.{Answer.{IsReaderAnswer, IsAnswer}, Run.AreAnswers, Word.{name_of, reader_of, IsNoWord}, declared.word.Word.Word}
+use Rattle.ixdtf_answers.specs.Answer.{line_limit, too_long, unknown_reader, is_space, letters, read_answer_of, error_answer_of, IsOutcome, IsExplanation}
+use Rattle.ixdtf_answers.specs.{Answer.{IsNamedExplanation, IsExplainAnswer, IsReaderAnswer, IsAnswer}, Run.AreAnswers, Word.{name_of, reader_of, explain, IsNoWord}, declared.word.Word.Word}
 use Rattle.ixdtf_answers.specs.declared.word.Word.TheVariants.{Parse, YearMonth, MonthDay, Time, Offset, Zone, Iana, Duration, StrictMonthDay, StrictTime}
 use Rattle.ixdtf_answers.specs.declared.word.Word.TheVariants.{StrictDuration, Canonical, Rfc3339, ZoneName, Rfc9557, CanonicalOffset, CanonicalZone, CanonicalDuration, Instant, CanonicalTime, CanonicalYearMonth, CanonicalMonthDay}
 use Rattle.ixdtf_buffers.specs.Lines.{newline}
+use Rattle.ixdtf_answers.proofs.ExplainLemmas.{explained}
 
 -- Each text has an outcome: the reader accepts it or returns an error.
 outcome_answer : (word : Word) (text : List ℕ) → (answer : List ℕ) × IsOutcome word text answer
@@ -17,6 +18,14 @@ outcome_answer word text = let outcome = one_unhandled_outcome (reader_of word) 
     go : (outcome : UnhandledOutcome) → HasUnhandledOutcome (reader_of word) (letters text) outcome → (answer : List ℕ) × IsOutcome word text answer
     go (read_as found) has = (read_answer_of word found, inl (found, has, refl))
     go (faulted fault) has = (error_answer_of fault, inr (fault, has, refl))
+
+-- Each text has an explanation: the reader accepts it, or the answer says why it does not.
+explanation : (word : Word) (text : List ℕ) → (answer : List ℕ) × IsExplanation word text answer
+explanation word text = let outcome = one_unhandled_outcome (reader_of word) (letters text) in go outcome.0 outcome.1
+  where
+    go : (outcome : UnhandledOutcome) → HasUnhandledOutcome (reader_of word) (letters text) outcome → (answer : List ℕ) × IsExplanation word text answer
+    go (read_as found) has = (read_answer_of word found, inl (found, has, refl))
+    go (faulted fault) has = let refusal = explained (reader_of word) text fault has in (refusal.0, inr refusal.1)
 
 -- Two lists of bytes are equal, or they are not.
 same_bytes : (xs ys : List ℕ) → (xs ≡ ys) ⊎ (xs ≢ ys)
@@ -47,10 +56,30 @@ no_word name none word is = grind arith
 word_or_none : (name : List ℕ) → ((word : Word) × (name ≡ name_of word)) ⊎ IsNoWord name
 word_or_none name = elim (word_among name all_words) [ inl p ↦ inl p | inr none ↦ inr (no_word name none) ]
 
+named_explanation : (name text : List ℕ) → (answer : List ℕ) × IsNamedExplanation name text answer
+named_explanation name text = elim (word_or_none name) [
+  | inl p ↦ (let answer = explanation p.0 text in (answer.0, inl (p.0, p.1, answer.1)))
+  | inr none ↦ (unknown_reader, inr (none, refl))
+]
+
+explain_answer : (bytes : List ℕ) → (answer : List ℕ) × IsExplainAnswer bytes answer
+explain_answer bytes = go (position is_space bytes)
+  where
+    go : (at : Option ℕ) → (answer : List ℕ) × MatchOption at (answer ≡ unknown_reader) (λ place. IsNamedExplanation (take place bytes) (drop (place + 1) bytes) answer)
+    go None = (unknown_reader, refl)
+    go (Some place) = named_explanation (take place bytes) (drop (place + 1) bytes)
+
+-- The answer to a line whose name is not that of a word.
+other_answer : (name text : List ℕ) → IsNoWord name → (answer : List ℕ) × IsReaderAnswer name text answer
+other_answer name text none = elim (same_bytes name explain) [
+  | inl is ↦ (let answer = explain_answer text in (answer.0, inr (inl (is, answer.1))))
+  | inr other ↦ (unknown_reader, inr (inr (none, other, refl)))
+]
+
 reader_answer : (name text : List ℕ) → (answer : List ℕ) × IsReaderAnswer name text answer
 reader_answer name text = elim (word_or_none name) [
   | inl p ↦ (let answer = outcome_answer p.0 text in (answer.0, inl (p.0, p.1, answer.1)))
-  | inr none ↦ (unknown_reader, inr (none, refl))
+  | inr none ↦ other_answer name text none
 ]
 
 each_answer : (line : List ℕ) → (answer : List ℕ) × IsAnswer line answer

@@ -1,11 +1,12 @@
 -- Defines the answer to one line, without its newline.
-use Rattle.std.specs.{Prelude.{◌≡◌, ℕ, ◌+◌, Bool, ◌==◌, ◌⊎◌, List, ◌++◌, map, length, take, drop, nat_lt, Option, Some, None, MatchOption, position, codes}, Bool.MatchBool}
+use Rattle.std.specs.{Prelude.{◌≡◌, ◌≢◌, ℕ, ◌+◌, Bool, ◌==◌, ◌⊎◌, List, ◌++◌, map, length, take, drop, nat_lt, Option, Some, None, MatchOption, position, codes}, Bool.MatchBool, Fmt.decimal}
 use Rattle.ixdtf_grammar.specs.declared.records.{DateRecord.DateRecord, TimeRecord.TimeRecord, UtcOffsetRecordOrZ.UtcOffsetRecordOrZ}
-use Rattle.ixdtf_grammar.specs.Instants.{instant_count}
+use Rattle.ixdtf_grammar.specs.{Instants.instant_count, Parts.{IsPart, extent_of}, ReasonNames.reason_name}
+use Rattle.ixdtf_grammar.specs.declared.{part.WrongPart.WrongPart, reason.Reason.Reason}
 use Rattle.ixdtf.specs.{table.{ErrorTexts.message_of, Faults.Fault}, Widths.{HasUnhandledOutcome, UnhandledOutcome.{read_as, faulted}}}
 use Rattle.ixdtf.specs.language.{Languages.{Parsed, Found, Found.{parsed, dated, shifted, identified, named, lasting}}, Letters.{Text, byte_letter}, Readers.Reader}
 use Rattle.ixdtf_print.specs.{Canonical.canonical_text, Times.lone_time_text, YearMonths.year_month_text, MonthDays.month_day_text}
-use Rattle.ixdtf_answers.specs.{Fields.{fields_of, canonical_field_by, instant_text_of}, Word.{name_of, reader_of, IsNoWord}, declared.word.Word.{Word, TheVariants.Parse}}
+use Rattle.ixdtf_answers.specs.{Fields.{fields_of, canonical_field_by, instant_text_of}, Word.{name_of, reader_of, explain, IsNoWord}, Errors.RefusesAt, declared.word.Word.{Word, TheVariants.Parse}}
 use Rattle.ixdtf_answers.specs.declared.word.Word.TheVariants.{YearMonth, MonthDay, Time, Offset, Zone, Iana, Duration, StrictMonthDay, StrictTime}
 use Rattle.ixdtf_answers.specs.declared.word.Word.TheVariants.{StrictDuration, Canonical, Rfc3339, ZoneName, Rfc9557, CanonicalOffset, CanonicalZone, CanonicalDuration, Instant, CanonicalTime, CanonicalYearMonth, CanonicalMonthDay}
 
@@ -93,18 +94,54 @@ Gives reader text found = HasUnhandledOutcome reader text (read_as found)
 abbrev pub Refuses : Reader → Text → Fault → Type 0
 Refuses reader text fault = HasUnhandledOutcome reader text (faulted fault)
 
+-- The reader of the word accepts the text, and this is the answer for its value.
+abbrev pub IsReadAnswer : Word → List ℕ → List ℕ → Type 0
+IsReadAnswer word text answer = (found : Found) × Gives (reader_of word) (letters text) found × (answer ≡ read_answer_of word found)
+
 -- The reader of the word accepts the text, and this is the answer for its value. Or it refuses the text, and this is the answer for
 -- its error.
 abbrev pub IsOutcome : Word → List ℕ → List ℕ → Type 0
 IsOutcome word text answer =
-    ((found : Found) × Gives (reader_of word) (letters text) found × (answer ≡ read_answer_of word found))
+    IsReadAnswer word text answer
     ⊎ ((fault : Fault) × Refuses (reader_of word) (letters text) fault × (answer ≡ error_answer_of fault))
 
--- This is the answer of the reader that the name names, or the answer that there is no such reader.
+-- This explains why a text is refused: it has the position of the error, the part of the text that is wrong, and the name of the reason.
+abbrev pub refusal_of : ℕ → WrongPart → Reason → List ℕ
+refusal_of at part reason =
+    codes "error at=" ++ (decimal at ++ (codes " part=" ++ (decimal part.begin ++ (codes ".." ++ (decimal part.end ++ (codes " reason=" ++ reason_name reason))))))
+
+-- The reader refuses the text at a position and for a reason, and the answer explains this.
+pub record ExplainsRefusal (reader : Reader) (text answer : List ℕ) : Type 0 where
+  pub at : ℕ
+  pub reason : Reason
+  pub refuses : RefusesAt reader (letters text) at reason
+  pub part : WrongPart
+  pub is_part : IsPart (extent_of reason) text at part
+  pub is : answer ≡ refusal_of at part reason
+
+-- The reader of the word accepts the text, and this is the answer for its value. Or it refuses the text, and the answer explains why.
+abbrev pub IsExplanation : Word → List ℕ → List ℕ → Type 0
+IsExplanation word text answer = IsReadAnswer word text answer ⊎ ExplainsRefusal (reader_of word) text answer
+
+-- This is the explanation of the word that has the name and of the text, or the answer that there is no such word.
+abbrev pub IsNamedExplanation : List ℕ → List ℕ → List ℕ → Type 0
+IsNamedExplanation name text answer =
+    ((word : Word) × (name ≡ name_of word) × IsExplanation word text answer)
+    ⊎ (IsNoWord name × (answer ≡ unknown_reader))
+
+-- This is the answer to `explain`, a space and these bytes. They have to be a word, a space and a text.
+abbrev pub IsExplainAnswer : List ℕ → List ℕ → Type 0
+IsExplainAnswer bytes answer = MatchOption (position is_space bytes)
+    (answer ≡ unknown_reader)
+    (λ place. IsNamedExplanation (take place bytes) (drop (place + 1) bytes) answer)
+
+-- This is the answer of the reader that the name names, or the explanation if the name is `explain`, or the answer that there is no
+-- such reader.
 abbrev pub IsReaderAnswer : List ℕ → List ℕ → List ℕ → Type 0
 IsReaderAnswer name text answer =
     ((word : Word) × (name ≡ name_of word) × IsOutcome word text answer)
-    ⊎ (IsNoWord name × (answer ≡ unknown_reader))
+    ⊎ (((name ≡ explain) × IsExplainAnswer text answer)
+    ⊎ (IsNoWord name × (name ≢ explain) × (answer ≡ unknown_reader)))
 
 -- This is the answer to a line.
 abbrev pub IsAnswer : List ℕ → List ℕ → Type 0

@@ -1,4 +1,5 @@
 pub mod Answer
+pub mod Errors
 pub mod Fields
 pub mod Parts
 pub mod Run

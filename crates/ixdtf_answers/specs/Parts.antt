@@ -1,11 +1,12 @@
 -- Defines what each function writes for an answer. No clause of `run` cites this module.
-use Rattle.std.specs.Prelude.{◌≡◌, ℕ, ◌<◌, Bool, List, [], ◌∷◌, ◌++◌, Option, Some, None, Result, IfOk, IfErr, take, codes}
+use Rattle.std.specs.Prelude.{◌≡◌, ℕ, ◌<◌, Bool, List, [], ◌∷◌, ◌++◌, Option, Some, None, Result, IfOk, IfErr, OnOk, take, codes}
 use Rattle.ixdtf_buffers.specs.declared.{error.RunError.RunError, output.Output.Output}
 use Rattle.ixdtf_buffers.specs.{Lines.newline, Output.Puts}
-use Rattle.ixdtf_grammar.specs.declared.error.ParseError.{ParseError}
+use Rattle.ixdtf_grammar.specs.declared.{error.ParseError.ParseError, located.LocatedError.LocatedError, part.WrongPart.WrongPart}
+use Rattle.ixdtf_grammar.specs.{Parts.{IsPart, extent_of}, language.Readers.Reader}
 use Rattle.ixdtf.specs.{language.{Brackets.ZoneNote, Languages.Found, ZoneNames.{Zone, Zone.{Name, Offset}}}, table.Faults.fault_of}
-use Rattle.ixdtf_answers.specs.Answer.{IsAnswer, IsOutcome, Gives, Refuses, letters, fields_answer_of, read_answer_of}
-use Rattle.ixdtf_answers.specs.{Fields.{minute_offset_text_of, zone_label_of}, Word.reader_of, declared.word.Word.Word}
+use Rattle.ixdtf_answers.specs.Answer.{IsAnswer, IsReaderAnswer, IsExplainAnswer, IsExplanation, IsOutcome, Gives, Refuses, letters, fields_answer_of, read_answer_of, refusal_of}
+use Rattle.ixdtf_answers.specs.{Fields.{minute_offset_text_of, zone_label_of}, Word.reader_of, Errors.RefusesAt, declared.word.Word.Word}
 
 -- The answers of the word show the fields of the value that its reader returns.
 abbrev pub ShowsFields : Word → Type 0
@@ -33,6 +34,35 @@ pub record IsPrinted (word : Word) (text room : List ℕ) (result : Result ℕ P
 pub record PutsOutcome {K : Type 0} (contents : K → Option (List ℕ)) (failed : K → Type 0) (before after : Output K) (result : Result (Unit {0}) RunError) (word : Word) (text : List ℕ) : Type 0 where
   pub answer : List ℕ
   pub is : IsOutcome word text answer
+  pub puts : Puts contents failed before after result (answer ++ newline ∷ [])
+
+-- The reader accepted the text, or refused it with this error.
+pub record IsLocated (reader : Reader) (text : List ℕ) (result : Result (Unit {0}) LocatedError) : Type 0 where
+  pub ok : OnOk result ((found : Found) × Gives reader (letters text) found)
+  pub err : IfErr result (λ error. RefusesAt reader (letters text) error.at error.reason)
+
+-- The explanation of the error, with the part of the text that is wrong, and a newline, were written to the output.
+pub record PutsRefusal {K : Type 0} (contents : K → Option (List ℕ)) (failed : K → Type 0) (before after : Output K) (result : Result (Unit {0}) RunError) (error : LocatedError) (text : List ℕ) : Type 0 where
+  pub part : WrongPart
+  pub is : IsPart (extent_of error.reason) text error.at part
+  pub puts : Puts contents failed before after result (refusal_of error.at part error.reason ++ newline ∷ [])
+
+-- The explanation of the word and the text, and a newline, were written to the output.
+pub record PutsExplanation {K : Type 0} (contents : K → Option (List ℕ)) (failed : K → Type 0) (before after : Output K) (result : Result (Unit {0}) RunError) (word : Word) (text : List ℕ) : Type 0 where
+  pub answer : List ℕ
+  pub is : IsExplanation word text answer
+  pub puts : Puts contents failed before after result (answer ++ newline ∷ [])
+
+-- The answer to `explain`, a space and these bytes, and a newline, were written to the output.
+pub record PutsExplained {K : Type 0} (contents : K → Option (List ℕ)) (failed : K → Type 0) (before after : Output K) (result : Result (Unit {0}) RunError) (bytes : List ℕ) : Type 0 where
+  pub answer : List ℕ
+  pub is : IsExplainAnswer bytes answer
+  pub puts : Puts contents failed before after result (answer ++ newline ∷ [])
+
+-- The answer to a line with this name and this text, and a newline, were written to the output.
+pub record PutsReaderAnswer {K : Type 0} (contents : K → Option (List ℕ)) (failed : K → Type 0) (before after : Output K) (result : Result (Unit {0}) RunError) (name text : List ℕ) : Type 0 where
+  pub answer : List ℕ
+  pub is : IsReaderAnswer name text answer
   pub puts : Puts contents failed before after result (answer ++ newline ∷ [])
 
 -- The answer to the line, and a newline, were written to the output.

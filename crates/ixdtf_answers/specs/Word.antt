@@ -54,6 +54,10 @@ reader_of CanonicalTime = parse_time Crate
 reader_of CanonicalYearMonth = parse_year_month
 reader_of CanonicalMonthDay = parse_month_day Crate
 
+-- This name at the beginning of a line asks for the explanation of a word and a text.
+abbrev pub explain : List ℕ
+explain = codes "explain"
+
 -- No word has the name.
 abbrev pub IsNoWord : List ℕ → Type 0
 IsNoWord name = (word : Word) → name ≢ name_of word

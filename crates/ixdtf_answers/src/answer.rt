@@ -1,11 +1,13 @@
 //! Writes the answer for a line.
 ghost use Rattle.std.specs.Prelude.{◌≡◌, [], ◌∷◌, ◌++◌, ◌≤◌, length};
 ghost use Rattle.ixdtf_answers.specs.Answer.{too_long, unknown_reader};
-ghost use Rattle.ixdtf_answers.specs.Parts.{PutsAnswer};
+ghost use Rattle.ixdtf_answers.specs.Parts.{PutsAnswer, PutsExplained, PutsReaderAnswer};
+ghost use Rattle.ixdtf_answers.specs.Word.{IsNoWord};
 ghost use Rattle.ixdtf_buffers.specs.Lines.{newline};
 ghost use Rattle.ixdtf_buffers.specs.Output.{Puts};
 
 use crate::canonical_answers::MOST_PRINTED;
+use crate::explanations::explain_text;
 use crate::reader_answers::answer_text;
 use crate::word::Word;
 use ixdtf_buffers::adding::ROOM;
@@ -71,10 +73,52 @@ fn answer_short<K: Sink>(
     let Some(place) = place_of(b' ', line) else {
         return put_no_such_reader(output);
     };
-    let Some(word) = Word::named(&line[..place]) else {
+    let name = &line[..place];
+    let text = &line[place + 1..];
+    match Word::named(name) {
+        Some(word) => answer_text(output, room, printed, word, text),
+        None => answer_no_word(output, room, printed, name, text),
+    }
+}
+
+/// Writes the answer for a line that does not begin with a word and a space. It can begin with `explain` and a space.
+#[cold]
+#[inline(never)]
+fn answer_no_word<K: Sink>(
+    output: &mut Output<'_, K>,
+    room: &mut [u8; ROOM],
+    printed: &mut [u8; MOST_PRINTED],
+    name: &[u8],
+    text: &[u8],
+) -> Result<(), RunError>
+    requires short { length text.now ≤ LINE_LIMIT }
+    requires unnamed { IsNoWord name.now }
+    ensures { PutsReaderAnswer K.contents K.failed output.old output.new result name.now text.now }
+{
+    if name == b"explain".as_slice() {
+        answer_explain(output, room, printed, text)
+    } else {
+        put_no_such_reader(output)
+    }
+}
+
+/// Writes the answer for a line that begins with `explain` and a space. `bytes` are the bytes after them: a word, a space and a text.
+fn answer_explain<K: Sink>(
+    output: &mut Output<'_, K>,
+    room: &mut [u8; ROOM],
+    printed: &mut [u8; MOST_PRINTED],
+    bytes: &[u8],
+) -> Result<(), RunError>
+    requires { length bytes.now ≤ LINE_LIMIT }
+    ensures { PutsExplained K.contents K.failed output.old output.new result bytes.now }
+{
+    let Some(place) = place_of(b' ', bytes) else {
         return put_no_such_reader(output);
     };
-    answer_text(output, room, printed, word, &line[place + 1..])
+    let Some(word) = Word::named(&bytes[..place]) else {
+        return put_no_such_reader(output);
+    };
+    explain_text(output, room, printed, word, &bytes[place + 1..])
 }
 
 /// Writes the answer for a line that is longer than `LINE_LIMIT`.

@@ -10,6 +10,7 @@
 mod answer;
 mod answer_fields;
 mod canonical_answers;
+mod explanations;
 pub mod laws;
 pub mod no_arguments;
 mod outcome;

@@ -63,7 +63,7 @@ fn add_record_front(room: &mut [u8; ROOM], parts: &IxdtfParseRecord<'_, Utf8>) -
 }
 
 /// Writes the first `front` bytes of the array, the name, and a newline.
-fn put_front_and_name<K: Sink>(
+pub fn put_front_and_name<K: Sink>(
     output: &mut Output<'_, K>,
     room: &mut [u8; ROOM],
     front: usize,

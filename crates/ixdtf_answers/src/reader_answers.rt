@@ -336,7 +336,7 @@ fn put_canonical<K: Sink>(
 }
 
 /// Creates a parser of the text under the profile.
-fn parser(profile: Profile, text: &[u8]) -> IxdtfParser<'_, Utf8>
+pub fn parser(profile: Profile, text: &[u8]) -> IxdtfParser<'_, Utf8>
     ensures rest { result.rest ≡ text.now }
     ensures profile { result.profile ≡ profile }
 {

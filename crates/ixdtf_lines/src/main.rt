@@ -27,7 +27,8 @@ const USAGE: &str =
     "usage: a line of standard input is a word, a space and a text, and the words are \
     parse, year-month, month-day, time, offset, zone, iana, duration, strict-month-day, \
     strict-time, strict-duration, rfc3339, rfc9557, zone-name, instant, canonical, canonical-time, \
-    canonical-year-month, canonical-month-day, canonical-offset, canonical-zone, canonical-duration";
+    canonical-year-month, canonical-month-day, canonical-offset, canonical-zone, canonical-duration; \
+    explain and a space can be before the word";
 
 fn refuse(rt: &impl Eprint) -> ExitCode {
     let _ = eprintln!(rt; "ixdtf_lines: takes no arguments");

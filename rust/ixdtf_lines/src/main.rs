@@ -6,6 +6,7 @@
 mod answer;
 mod answer_fields;
 mod canonical_answers;
+mod explanations;
 mod no_arguments;
 mod outcome;
 mod reader_answers;
@@ -48,7 +49,8 @@ fn standard_output() -> Box<dyn Write> {
 const USAGE: &str = "usage: a line of standard input is a word, a space and a text, and the words are \
     parse, year-month, month-day, time, offset, zone, iana, duration, strict-month-day, \
     strict-time, strict-duration, rfc3339, rfc9557, zone-name, instant, canonical, canonical-time, \
-    canonical-year-month, canonical-month-day, canonical-offset, canonical-zone, canonical-duration";
+    canonical-year-month, canonical-month-day, canonical-offset, canonical-zone, canonical-duration; \
+    explain and a space can be before the word";
 
 /// Reports that reading or writing failed.
 fn failed(what: &str) -> ExitCode {

@@ -290,6 +290,6 @@ fn put_canonical<K: Sink>(
 }
 
 /// Creates a parser of the text under the profile.
-fn parser(profile: Profile, text: &[u8]) -> IxdtfParser<'_, Utf8> {
+pub fn parser(profile: Profile, text: &[u8]) -> IxdtfParser<'_, Utf8> {
     IxdtfParser::from_utf8(text).with_profile(profile)
 }

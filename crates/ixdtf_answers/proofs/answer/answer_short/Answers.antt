@@ -1,6 +1,6 @@
--- Proves the case of a line that names a reader, and the two cases of a line that does not.
+-- Proves the case of a line without a space, and the two cases of a line with one.
 use Rattle.ixdtf_answers.proofs.answer.answer_short.Goals as goal
-use Rattle.std.proofs.Common.{inl, inr, refl}
+use Rattle.std.proofs.Common.{inl}
 use Rattle.ixdtf_answers.specs.Answer.{unknown_reader}
 use Rattle.ixdtf_answers.proofs.AnswerLemmas.{IsAnswer-word, IsAnswer-none}
 
@@ -11,18 +11,20 @@ returns-in_default g c = record {
   puts = c.put_no_such_reader.ensures;
 }
 
-pub returns-in_default-named : goal.returns-in_default-named
-returns-in_default-named g c = record {
-  answer = unknown_reader;
-  is = IsAnswer-word c.args.line.now unknown_reader c.in-Some.place c.requires c.in-Some.ensures.place (inr (c.in_default-named.ensures, refl));
-  puts = c.put_no_such_reader-in_default-named.ensures;
-}
-
-pub returns : goal.returns
-returns g c =
+pub returns-in-Some-named : goal.returns-in-Some-named
+returns-in-Some-named g c =
     let p = c.answer_text.ensures in
     record {
       answer = p.answer;
       is = IsAnswer-word c.args.line.now p.answer c.in-Some.place c.requires c.in-Some.ensures.place (inl (c.in-Some-named.word, c.in-Some-named.ensures, p.is));
+      puts = p.puts;
+    }
+
+pub returns-in-None : goal.returns-in-None
+returns-in-None g c =
+    let p = c.answer_no_word.ensures in
+    record {
+      answer = p.answer;
+      is = IsAnswer-word c.args.line.now p.answer c.in-Some.place c.requires c.in-Some.ensures.place p.is;
       puts = p.puts;
     }

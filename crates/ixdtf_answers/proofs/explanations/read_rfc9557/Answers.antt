@@ -1,0 +1,13 @@
+-- Proves which value the reader returned, and which error.
+use Rattle.ixdtf_answers.proofs.explanations.read_rfc9557.Goals as goal
+use Rattle.std.proofs.Common.{refl}
+use Rattle.ixdtf_grammar.specs.{table.Faults.fault_of_located, language.Languages.Found.parsed}
+
+pub returns-in-Ok : goal.returns-in-Ok
+returns-in-Ok c = record { ok = (parsed _, rw c.from_utf8.ensures.rest at ((c.in-Ok.ensures.reads.ok _).0 refl)); err = tt }
+
+pub returns-in-Err : goal.returns-in-Err
+returns-in-Err c = record {
+  ok = tt;
+  err = rw (← c.from_utf8.ensures.rest) (fault_of_located c.in-Err.error, c.in-Err.ensures.reads.err, c.in-Err.ensures.reads.reason);
+}
