@@ -58,12 +58,10 @@ fn answer_short<K: Sink>(
     let Some(place) = place_of(b' ', line) else {
         return put_no_such_reader(output);
     };
-    let name = &line[..place];
-    let text = &line[place + 1..];
-    match Word::named(name) {
-        Some(word) => answer_text(output, room, printed, word, text),
-        None => answer_no_word(output, room, printed, name, text),
-    }
+    let Some(word) = Word::named(&line[..place]) else {
+        return answer_no_word(output, room, printed, &line[..place], &line[place + 1..]);
+    };
+    answer_text(output, room, printed, word, &line[place + 1..])
 }
 
 /// Writes the answer for a line that does not begin with a word and a space. It can begin with `explain` and a space.

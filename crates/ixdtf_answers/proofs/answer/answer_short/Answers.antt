@@ -11,20 +11,20 @@ returns-in_default g c = record {
   puts = c.put_no_such_reader.ensures;
 }
 
-pub returns-in-Some-named : goal.returns-in-Some-named
-returns-in-Some-named g c =
-    let p = c.answer_text.ensures in
-    record {
-      answer = p.answer;
-      is = IsAnswer-word c.args.line.now p.answer c.in-Some.place c.requires c.in-Some.ensures.place (inl (c.in-Some-named.word, c.in-Some-named.ensures, p.is));
-      puts = p.puts;
-    }
-
-pub returns-in-None : goal.returns-in-None
-returns-in-None g c =
+pub returns-in_default-named : goal.returns-in_default-named
+returns-in_default-named g c =
     let p = c.answer_no_word.ensures in
     record {
       answer = p.answer;
       is = IsAnswer-word c.args.line.now p.answer c.in-Some.place c.requires c.in-Some.ensures.place p.is;
+      puts = p.puts;
+    }
+
+pub returns : goal.returns
+returns g c =
+    let p = c.answer_text.ensures in
+    record {
+      answer = p.answer;
+      is = IsAnswer-word c.args.line.now p.answer c.in-Some.place c.requires c.in-Some.ensures.place (inl (c.in-Some-named.word, c.in-Some-named.ensures, p.is));
       puts = p.puts;
     }
