@@ -5,6 +5,7 @@ pub mod ColumnLemmas
 pub mod CsvLemmas
 pub mod InstantLemmas
 pub mod JsonLemmas
+pub mod JsonStringLemmas
 pub mod MaskedLemmas
 pub mod NameLemmas
 pub mod NumberLemmas

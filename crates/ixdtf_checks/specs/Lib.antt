@@ -5,6 +5,7 @@ pub mod Columns
 pub mod Csv
 pub mod Errors
 pub mod Json
+pub mod JsonStrings
 pub mod Kept
 pub mod Kinds
 pub mod Numbers

@@ -1,12 +1,24 @@
-//! The check with a source and two sinks in memory. Its contract says exactly which reports are written.
+//! Theorems for callers about the reports, and the check with a source and two sinks in memory. The contract of this check says
+//! exactly which reports are written.
 ghost use Rattle.std.specs.Prelude.{◌≡◌, ◌⊎◌, ℕ, List, [], ◌++◌, length, Some, Err, OnOk, IfErr};
 ghost use Rattle.ixdtf_buffers.specs.Lines.{lines_of};
 ghost use Rattle.ixdtf_checks.specs.Checks.{ReportsFront, ReportsWhole};
+ghost use Rattle.ixdtf_checks.specs.JsonStrings.{HasNoControl, IsReadBack};
 
 use crate::checker::{Checked, check_lines};
 use crate::request::Request;
 use ixdtf_buffers::error::RunError;
 use ixdtf_buffers::memory::{MemorySink, MemorySource};
+
+/// States that a reader of JSON gets the text back from each string of a report.
+///
+/// - `text`: a reader that follows RFC 8259, section 7, gets the text for which the string is written. The string ends where this
+///   reader stops, whatever follows it.
+/// - `bare`: no control character (U+0000 to U+001F) is in the string. Each one is escaped.
+pub fn json_strings_are_read_back()
+    ensures text { IsReadBack }
+    ensures bare { HasNoControl }
+{}
 
 /// Checks each line of the bytes. Writes to two sinks in memory, which must be empty. If the task is `Task::Print`, the canonical
 /// texts go to `sink`, and the reports go to `reports`. Otherwise the reports go to `sink`, and nothing goes to `reports`.
