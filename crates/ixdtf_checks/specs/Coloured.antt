@@ -1,5 +1,6 @@
 -- Defines the report of a refused line with colours.
-use Rattle.std.specs.Prelude.{ℕ, ◌+◌, ◌-◌, List, [], ◌∷◌, ◌++◌, length, take, drop, position, codes, Option, Some, None}
+use Rattle.std.specs.Prelude.{◌≡◌, ℕ, ◌+◌, ◌-◌, List, [], ◌∷◌, ◌++◌, length, take, drop, position, codes, Option, Some, None}
+use Rattle.std.specs.List.{flat_map}
 use Rattle.ixdtf_buffers.specs.Lines.{is_byte, newline}
 use Rattle.ixdtf_checks.specs.{Texts.line_and_column, Verdicts.Refusal}
 
@@ -53,3 +54,28 @@ report_with strong red name number refusal hint =
 -- The name of the file, the number of the line, the column and the word before the hint are bold, and the marks are bold and red.
 abbrev pub coloured_of : List ℕ → ℕ → Refusal → Option (List ℕ) → List ℕ
 coloured_of name number refusal hint = report_with bold bold_red name number refusal hint
+
+-- A report with colours has parts of the report as a text, and escape sequences.
+pub data Piece : Type 0 where
+  shown : List ℕ → Piece
+  starts_bold : Piece
+  starts_red : Piece
+  ends : Piece
+
+-- These are the bytes of a piece.
+abbrev pub piece_bytes : Piece → List ℕ
+piece_bytes (shown bytes) = bytes
+piece_bytes starts_bold = bold_on
+piece_bytes starts_red = red_on
+piece_bytes ends = off
+
+-- These are its bytes without escape sequences.
+abbrev pub piece_text : Piece → List ℕ
+piece_text (shown bytes) = bytes
+piece_text starts_bold = []
+piece_text starts_red = []
+piece_text ends = []
+
+-- Without its escape sequences, the report is this text.
+abbrev pub IsColoured : List ℕ → List ℕ → Type 0
+IsColoured report text = (pieces : List Piece) × (report ≡ flat_map piece_bytes pieces) × (text ≡ flat_map piece_text pieces)

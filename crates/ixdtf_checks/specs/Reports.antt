@@ -2,7 +2,7 @@
 use Rattle.std.specs.{Prelude.{◌≡◌, ℕ, Bool, true, false, ◌+◌, ◌||◌, ◌==◌, nat_le, nat_lt, List, [], ◌∷◌, ◌++◌, length, Option, None}, Bool.MatchBool}
 use Rattle.ixdtf_instants.specs.declared.instant.Instant.{Instant}
 use Rattle.ixdtf_buffers.specs.Lines.{newline}
-use Rattle.ixdtf_checks.specs.{declared.request.{Request.Request, Task.{Task, TheVariants.{Check, Print, Order}}, Format.{Format, TheVariants.{Text, Coloured, Json}}}, Coloured.coloured_of, Json.json_object, Texts.text_of, Order.latest, Verdicts.{Cause, Refusal, hint_line, IsHintAbout, Tells, Verdict, IsVerdict, Verdict.{accepted, printed, skipped, refused}}}
+use Rattle.ixdtf_checks.specs.{declared.request.{Request.Request, Task.{Task, TheVariants.{Check, Print, Order}}, Format.{Format, TheVariants.{Text, Coloured, Json}}}, Coloured.{IsColoured, coloured_of}, Json.json_object, Texts.text_of, Order.latest, Verdicts.{Cause, Refusal, hint_line, IsHintAbout, Tells, Verdict, IsVerdict, Verdict.{accepted, printed, skipped, refused}}}
 
 -- This is the report of a refused line in a format, with a hint if there is one.
 abbrev pub refusal_of : Format → List ℕ → ℕ → Refusal → Option (List ℕ) → List ℕ
@@ -28,6 +28,11 @@ IsHintIn hinted cause hint = MatchBool hinted (IsHintAbout cause hint) (hint ≡
 abbrev pub IsRefusalReport : Format → List ℕ → ℕ → Bool → Cause → List ℕ → Type 0
 IsRefusalReport format name number hinted cause report = (refusal : Refusal) × (hint : Option (List ℕ)) × Tells cause refusal
     × IsHintIn hinted cause hint × (report ≡ refusal_of format name number refusal hint)
+
+-- Without its escape sequences, a report with colours is a report as a text of the same line.
+abbrev pub ColoursOnlyAdd : Type 0
+ColoursOnlyAdd = (name : List ℕ) (number : ℕ) (hinted : Bool) (cause : Cause) (report : List ℕ) → IsRefusalReport Coloured name number hinted cause report
+    → (text : List ℕ) × IsRefusalReport Text name number hinted cause text × IsColoured report text
 
 -- This is the report of the line with this number. `refusals` is the number of refused lines up to it.
 abbrev pub IsReport : Request → ℕ → ℕ → Verdict → List ℕ → Type 0

@@ -4,8 +4,8 @@
 ghost use Rattle.std.specs.Prelude.{◌<◌, ◌++◌, ℕ, List, length, option_map};
 ghost use Rattle.ixdtf_explanations.specs.Messages.{message_text};
 ghost use Rattle.ixdtf_buffers.specs.Output.{Puts};
-ghost use Rattle.ixdtf_checks.specs.Coloured.{bold, bold_red, but_last, coloured_hint, coloured_lines, coloured_marks};
-ghost use Rattle.ixdtf_checks.specs.declared.request.Format.TheVariants.{Coloured};
+ghost use Rattle.ixdtf_checks.specs.Coloured.{IsColoured, bold, bold_red, but_last, coloured_hint, coloured_lines, coloured_marks};
+ghost use Rattle.ixdtf_checks.specs.declared.request.Format.TheVariants.{Coloured, Text};
 ghost use Rattle.ixdtf_checks.specs.Reports.{IsRefusalReport};
 ghost use Rattle.ixdtf_checks.specs.Seen.{lines_in, seen_cause};
 ghost use Rattle.ixdtf_checks.specs.Texts.{line_and_column};
@@ -40,7 +40,7 @@ const HINT: &[u8] = b"\x1b[1mhint:\x1b[0m ";
 const PLACE_ROOM: usize = 44;
 
 /// Writes the report of a refused line to the output, with colours. `cause` says why the line is refused. If `has_hint` is `true`, the
-/// report has the hint about the line, if there is one.
+/// report has the hint about the line, if there is one. Without its escape sequences, it is the report as a text.
 ///
 /// The function is not inlined, because it is called only for refused lines, and most lines are accepted.
 #[cold]
@@ -53,7 +53,8 @@ pub fn put_coloured<K: Sink>(
     cause: &Cause<'_>,
     has_hint: bool,
 ) -> Result<(), RunError>
-    ensures { (report : List ℕ) × IsRefusalReport Coloured name.now number has_hint (seen_cause cause.now) report
+    ensures { (report : List ℕ) × (text : List ℕ) × IsRefusalReport Coloured name.now number has_hint (seen_cause cause.now) report
+        × IsRefusalReport Text name.now number has_hint (seen_cause cause.now) text × IsColoured report text
         × Puts K.contents K.failed output.old output.new result report }
 {
     let refusal = refusal_of(*cause);

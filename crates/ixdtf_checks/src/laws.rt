@@ -4,6 +4,7 @@ ghost use Rattle.std.specs.Prelude.{◌≡◌, ◌⊎◌, ℕ, List, [], ◌++�
 ghost use Rattle.ixdtf_buffers.specs.Lines.{lines_of};
 ghost use Rattle.ixdtf_checks.specs.Checks.{ReportsFront, ReportsWhole};
 ghost use Rattle.ixdtf_checks.specs.JsonStrings.{HasNoControl, IsReadBack};
+ghost use Rattle.ixdtf_checks.specs.Reports.{ColoursOnlyAdd};
 
 use crate::checker::{Checked, check_lines};
 use crate::request::Request;
@@ -18,6 +19,11 @@ use ixdtf_buffers::memory::{MemorySink, MemorySource};
 pub fn json_strings_are_read_back()
     ensures text { IsReadBack }
     ensures bare { HasNoControl }
+{}
+
+/// States that a report with colours is the report as a text, if its escape sequences are left out.
+pub fn colours_only_add()
+    ensures { ColoursOnlyAdd }
 {}
 
 /// Checks each line of the bytes. Writes to two sinks in memory, which must be empty. If the task is `Task::Print`, the canonical

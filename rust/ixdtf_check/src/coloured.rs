@@ -34,7 +34,7 @@ const HINT: &[u8] = b"\x1b[1mhint:\x1b[0m ";
 const PLACE_ROOM: usize = 44;
 
 /// Writes the report of a refused line to the output, with colours. `cause` says why the line is refused. If `has_hint` is `true`, the
-/// report has the hint about the line, if there is one.
+/// report has the hint about the line, if there is one. Without its escape sequences, it is the report as a text.
 ///
 /// The function is not inlined, because it is called only for refused lines, and most lines are accepted.
 #[cold]
