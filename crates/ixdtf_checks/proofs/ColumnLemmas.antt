@@ -1,15 +1,11 @@
 -- Proves which field has a name.
-use Rattle.std.proofs.Common.{◌≡◌, ◌≢◌, ◌⊎◌, inl, inr, ℕ, zero, suc, ◌+◌, ◌-◌, ◌<◌, Bool, true, false, if◌then◌else◌, List, length, take, drop, Option, Some, None, option_map, position, refl, sym, ap, ◌∙◌, subst, arith}
+use Rattle.std.proofs.Common.{◌≡◌, ◌≢◌, ◌⊎◌, inl, inr, ℕ, zero, suc, ◌+◌, ◌-◌, ◌<◌, ◌≤◌, Bool, true, false, List, [], ◌∷◌, ◌++◌, length, take, drop, get_or, Option, Some, None, option_map, position, refl, sym, ap, ◌∙◌, subst, arith, length-append}
+use Rattle.std.proofs.Math.{ListN.get_or-append, Seq.get_or-append_seam}
 use Rattle.std.proofs.lemmas.{Bool.cases_order, List.drop-drop, Option.{none-some, same_Some}}
 use Rattle.ixdtf_buffers.specs.Lines.{is_byte}
-use Rattle.ixdtf_checks.specs.{Columns.{IsNamed, IsColumn, IsMissing, HasNoColumn}, Parts.{field_start, front_field}, declared.named_column.ColumnError.TheVariants.{Twice}}
-use Rattle.ixdtf_checks.proofs.CsvLemmas.{rest_of}
-
--- Of the first `count` fields, this is the only one that has the name. If it is `None`, none of them has the name.
-abbrev pub Seen : ℕ → List ℕ → List ℕ → ℕ → Option ℕ → Type 0
-Seen separator name line count None = (other : ℕ) → other < count → ¬ (IsNamed separator name line other)
-Seen separator name line count (Some column) =
-    (column < count) × IsNamed separator name line column × ((other : ℕ) → other < count → IsNamed separator name line other → other ≡ column)
+use Rattle.ixdtf_checks.specs.declared.{csv.Ending.TheVariants.{Last, At}, named_column.{ColumnError.{ColumnError, TheVariants.{Missing, NoSeparator, Twice, NoRecord}}, Found.{Found, TheVariants.{Nothing, One, Several}}}}
+use Rattle.ixdtf_checks.specs.{Columns.{AreFound, HasNoColumn, HasNoRecordColumn, IsMissing, IsNamed, IsNamedCell, IsNamedIn, IsNowhere, TellsOneField, cell_text, found_with}, Csv.{Cell, Cell.{escaped, unescaped}, IsRecord, fronts}, Parts.{field_start, front_field, text_in}, Walks.{HasEnding, IsBehind}}
+use Rattle.ixdtf_checks.proofs.CsvLemmas.{behind_more, behind_more-earlier, behind_none, behind_none-earlier, rest_of}
 
 -- A number below `count` + 1 is below `count` or is `count`.
 below_next : (other count : ℕ) → other < suc count → (other < count) ⊎ (other ≡ count)
@@ -18,40 +14,26 @@ below_next other count below = elim (cases_order other count) [
   | inr o ↦ elim o [ inl less ↦ inl less | inr more ↦ absurd (omega (arith, below, more)) ]
 ]
 
-module _ (separator : ℕ) (name line : List ℕ) (count : ℕ) where
-  abbrev Named : ℕ → Type 0
-  Named other = IsNamed separator name line other
+-- ---- which fields have the name
 
-  -- One more field does not have the name.
-  seen_other : (found : Option ℕ) → Seen separator name line count found → ¬ (Named count) → Seen separator name line (suc count) found
-  seen_other None seen otherwise = λ other below named. elim (below_next other count below) [
-    | inl less ↦ seen other less named
-    | inr e ↦ otherwise (subst Named e named)
-  ]
-  seen_other (Some column) (less, named, only) otherwise = (
-    omega (arith, less),
-    named,
-    λ other below is. elim (below_next other count below) [ inl l ↦ only other l is | inr e ↦ absurd (otherwise (subst Named e is)) ],
-  )
+-- The same fields have the name.
+pub found_same : (Was Has : ℕ → Type 0) → ((k : ℕ) → Was k → Has k) → ((k : ℕ) → Has k → Was k) → (found : Found) → AreFound Was found → AreFound Has found
+found_same Was Has keeps back Nothing are = λ k has. are k (back k has)
+found_same Was Has keeps back (One column) (named, only) = (keeps column named, λ other has. only other (back other has))
+found_same Was Has keeps back Several (before, other, less, first, second) = (before, other, less, keeps before first, keeps other second)
 
-  -- One more field is the first that has the name.
-  seen_named : Seen separator name line count None → Named count → Seen separator name line (suc count) (Some count)
-  seen_named seen named = (
-    omega arith,
-    named,
-    λ other below is. elim (below_next other count below) [ inl less ↦ absurd (seen other less is) | inr e ↦ e ],
-  )
+-- `Was` is said of the first `count` fields, and `Has` of one more field.
+module _ (Was Has : ℕ → Type 0) (count : ℕ) (keeps : (k : ℕ) → Was k → Has k) (back : (k : ℕ) → Has k → Was k ⊎ (k ≡ count)) (below : (k : ℕ) → Was k → k < count) where
+  -- Without the name at one more field, each field that has it had it before.
+  not_here : ¬ (Has count) → (k : ℕ) → Has k → Was k
+  not_here otherwise k has = elim (back k has) [ inl was ↦ was | inr e ↦ absurd (otherwise (subst Has e has)) ]
 
-  pub seen_more : (is_named : Bool) (found kept : Option ℕ) → Seen separator name line count found → (is_named ≡ true → Named count)
-      → (is_named ≡ false → ¬ (Named count)) → kept ≡ (if is_named then Some count else found) → (is_named ≡ true → found ≡ None)
-      → Seen separator name line (suc count) kept
-  seen_more false found kept seen here otherwise is none = rw is (seen_other found seen (otherwise refl))
-  seen_more true found kept seen here otherwise is none = rw is (seen_named (rw (none refl) at seen) (here refl))
-
-  -- Two fields have the name.
-  pub seen_twice : (found : Option ℕ) → found ≢ None → Seen separator name line count found → Named count → HasNoColumn Twice separator name line
-  seen_twice None some seen named = absurd (some refl)
-  seen_twice (Some column) some (less, first, only) named = (column, count, less, first, named)
+  pub found_more : (found : Found) → AreFound Was found → (is_named : Bool) → (is_named ≡ true → Has count) → (is_named ≡ false → ¬ (Has count))
+      → AreFound Has (found_with found count is_named)
+  found_more found are false here otherwise = found_same Was Has keeps (not_here (otherwise refl)) found are
+  found_more Nothing are true here otherwise = (here refl, λ other has. elim (back other has) [ inl was ↦ absurd (are other was) | inr e ↦ e ])
+  found_more (One column) are true here otherwise = (column, count, below column are.0, keeps column are.0, here refl)
+  found_more Several are true here otherwise = (are.0, are.1, are.2, keeps are.0 are.3, keeps are.1 are.4)
 
 -- `Next` says where the next field begins, from the index of the next separator.
 abbrev Next : ℕ → ℕ → Option ℕ → (ℕ → Option ℕ) → Type 0
@@ -145,21 +127,6 @@ front_before separator place line at = rw at refl
 pub front_whole : (separator : ℕ) (line : List ℕ) → position (is_byte separator) line ≡ None → front_field separator line ≡ line
 front_whole separator line none = rw none refl
 
--- ---- what is returned
-
--- This field of the line is the only one that has the name. If it is `None`, no field has the name.
-abbrev pub IsOnly : ℕ → List ℕ → List ℕ → Option ℕ → Type 0
-IsOnly separator name line None = IsMissing separator name line
-IsOnly separator name line (Some column) = IsColumn separator name line column
-
--- All fields of the line were seen.
-only_named : (separator before start : ℕ) (name line : List ℕ) (kept : Option ℕ) → field_start separator before line ≡ Some start
-    → position (is_byte separator) (drop start line) ≡ None → Seen separator name line (suc before) kept → IsOnly separator name line kept
-only_named separator before start name line None is none seen =
-    λ other named. seen other (named_before separator before start name line other is none named) named
-only_named separator before start name line (Some column) is none (less, named, only) =
-    record { named = named; only = λ other other_named. only other (named_before separator before start name line other is none other_named) other_named }
-
 -- ---- the field that the code looks at
 
 -- The first separator of the slice is the first separator of the rest of the line.
@@ -167,30 +134,121 @@ pub place_in_rest : (separator start : ℕ) (line : List ℕ) {place : Option �
     → position (is_byte separator) (drop start line) ≡ place
 place_in_rest separator start line is = sym (rw (rest_of start line) at is)
 
--- The field begins at `start`, after `before` other fields. `found` says which of these has the name. The code has the rest of the line as a
+-- Of the first `count` fields, the one after `before` others has the name.
+abbrev pub IsNamedBelow : ℕ → List ℕ → List ℕ → ℕ → ℕ → Type 0
+IsNamedBelow separator name line count before = (before < count) × IsNamed separator name line before
+
+-- The field begins at `start`, after `before` other fields. `found` says which of these have the name. The code has the rest of the line as a
 -- slice.
-module _ (separator : ℕ) (name line : List ℕ) (before start : ℕ) (found : Option ℕ) (starts : field_start separator before line ≡ Some start)
-    (seen : Seen separator name line before found) (field : List ℕ) (is : field ≡ front_field separator (take (length line - start) (drop start line))) where
+module _ (separator : ℕ) (name line : List ℕ) (before start : ℕ) (found : Found) (starts : field_start separator before line ≡ Some start)
+    (are : AreFound (IsNamedBelow separator name line before) found) (field : List ℕ)
+    (is : field ≡ front_field separator (take (length line - start) (drop start line))) where
   -- The rest of the line begins with the field.
   field_in_rest : front_field separator (drop start line) ≡ field
   field_in_rest = sym (rw (rest_of start line) at is)
 
-  -- `kept` says which field up to this one has the name.
-  pub seen_here : (is_named : Bool) (kept : Option ℕ) → (is_named ≡ true → field ≡ name) → (is_named ≡ false → field ≢ name)
-      → kept ≡ (if is_named then Some before else found) → (is_named ≡ true → found ≡ None) → Seen separator name line (suc before) kept
-  seen_here is_named kept same other keeps none =
-      seen_more separator name line before is_named found kept seen
-      (λ told. named_here separator before start name line field starts field_in_rest (same told))
-      (λ told. λ named. other told (named_here_only separator before start name line field starts field_in_rest named))
-      keeps none
+  -- These fields have the name, up to this one.
+  pub found_here : (is_named : Bool) → (is_named ≡ true → field ≡ name) → (is_named ≡ false → field ≢ name)
+      → AreFound (IsNamedBelow separator name line (suc before)) (found_with found before is_named)
+  found_here is_named same other =
+      found_more (IsNamedBelow separator name line before) (IsNamedBelow separator name line (suc before)) before
+      (λ k (below, named). (omega (arith, below), named))
+      (λ k (below, named). elim (below_next k before below) [ inl less ↦ inl (less, named) | inr e ↦ inr e ])
+      (λ k (below, named). below)
+      found are is_named
+      (λ told. (omega arith, named_here separator before start name line field starts field_in_rest (same told)))
+      (λ told (below, named). other told (named_here_only separator before start name line field starts field_in_rest named))
 
-  -- This field and a field before it have the name.
-  pub twice_here : field ≡ name → found ≢ None → HasNoColumn Twice separator name line
-  twice_here same some = seen_twice separator name line before found some seen (named_here separator before start name line field starts field_in_rest same)
+  -- This is the last field, so it is known which fields of the line have the name.
+  pub found_last : None ≡ position (is_byte separator) (take (length line - start) (drop start line)) → (is_named : Bool) → (is_named ≡ true → field ≡ name)
+      → (is_named ≡ false → field ≢ name) → AreFound (IsNamed separator name line) (found_with found before is_named)
+  found_last last is_named same other =
+      found_same (IsNamedBelow separator name line (suc before)) (IsNamed separator name line)
+      (λ k (below, named). named)
+      (λ k named. (named_before separator before start name line k starts (place_in_rest separator start line last) named, named))
+      (found_with found before is_named) (found_here is_named same other)
 
-  -- This is the last field, so it is known which field of the line has the name.
-  pub last_here : None ≡ position (is_byte separator) (take (length line - start) (drop start line)) → (is_named : Bool) (kept : Option ℕ)
-      → (is_named ≡ true → field ≡ name) → (is_named ≡ false → field ≢ name) → kept ≡ (if is_named then Some before else found)
-      → (is_named ≡ true → found ≡ None) → IsOnly separator name line kept
-  last_here last is_named kept same other keeps none = only_named separator before start name line kept starts (place_in_rest separator start line last)
-      (seen_here is_named kept same other keeps none)
+-- ---- what is returned
+
+pub no_column : (separator : ℕ) (name line : List ℕ) (error : ColumnError) → TellsOneField error separator line → IsMissing separator name line
+    → HasNoColumn error separator name line
+no_column separator name line Missing tells missing = (missing, tells)
+no_column separator name line NoSeparator tells missing = (missing, tells)
+no_column separator name line Twice tells missing = absurd tells
+no_column separator name line NoRecord tells missing = absurd tells
+
+pub no_record_column : (separator : ℕ) (name line : List ℕ) (error : ColumnError) → TellsOneField error separator line → length line ≤ 65536
+    → (is : IsRecord separator line) → IsNowhere (IsNamedIn is name) → HasNoRecordColumn error separator name line
+no_record_column separator name line Missing tells short is nowhere = inr (short, is, nowhere, tells)
+no_record_column separator name line NoSeparator tells short is nowhere = (short, is, nowhere, tells)
+no_record_column separator name line Twice tells short is nowhere = absurd tells
+no_record_column separator name line NoRecord tells short is nowhere = absurd tells
+
+-- ---- fields of a record
+
+-- These are the fields before one more field.
+module _ (cells : List Cell) (cell : Cell) (name : List ℕ) where
+  named_earlier : (k : ℕ) → IsNamedCell cells name k → IsNamedCell (cells ++ cell ∷ []) name k
+  named_earlier k (below, named) = (
+    omega (arith, below, length-append cells (cell ∷ [])),
+    ap cell_text (get_or-append cells (cell ∷ []) (unescaped []) k below) ∙ named,
+  )
+
+  cell_here : cell_text (get_or (cells ++ cell ∷ []) (length cells) (unescaped [])) ≡ cell_text cell
+  cell_here = ap cell_text (get_or-append_seam cells cell [] (unescaped []))
+
+  named_back : (k : ℕ) → IsNamedCell (cells ++ cell ∷ []) name k → IsNamedCell cells name k ⊎ (k ≡ length cells)
+  named_back k (below, named) = elim (below_next k (length cells) (omega (arith, below, length-append cells (cell ∷ [])))) [
+    | inl less ↦ inl (less, sym (ap cell_text (get_or-append cells (cell ∷ []) (unescaped []) k less)) ∙ named)
+    | inr e ↦ inr e
+  ]
+
+  pub found_cell : (found : Found) → AreFound (IsNamedCell cells name) found → (before : ℕ) → length cells ≡ before → (is_named : Bool)
+      → (is_named ≡ true → cell_text cell ≡ name) → (is_named ≡ false → cell_text cell ≢ name)
+      → AreFound (IsNamedCell (cells ++ cell ∷ []) name) (found_with found before is_named)
+  found_cell found are before many is_named same other =
+      subst (λ count. AreFound (IsNamedCell (cells ++ cell ∷ []) name) (found_with found count is_named)) many
+      (found_more (IsNamedCell cells name) (IsNamedCell (cells ++ cell ∷ []) name) (length cells) named_earlier named_back (λ k (below, named). below)
+      found are is_named
+      (λ told. (omega (arith, length-append cells (cell ∷ [])), cell_here ∙ same told))
+      (λ told (below, named). other told (sym cell_here ∙ named)))
+
+pub text_of_cell : (start : ℕ) (cell : Cell) → (text_in start cell).bytes ≡ cell_text cell
+text_of_cell start (escaped text) = refl
+text_of_cell start (unescaped text) = refl
+
+-- No field was looked at.
+pub record_none : (separator : ℕ) (name line : List ℕ)
+    → (behind : IsBehind separator 0 line 0) × AreFound (IsNamedCell behind.earlier name) Nothing
+record_none separator name line = (
+  behind_none separator line,
+  subst (λ cells. AreFound (IsNamedCell cells name) Nothing) (sym (behind_none-earlier separator line)) (λ k (below, named). absurd (omega (arith, below))),
+)
+
+-- The line begins with some fields, and this is the index after them. `found` says which of these have the name.
+module _ (separator before : ℕ) (name line : List ℕ) (start : ℕ) (behind : IsBehind separator before line start) (found : Found)
+    (are : AreFound (IsNamedCell behind.earlier name) found) (is_named : Bool) where
+  -- The field that begins here ends at a separator.
+  pub record_more : (place : ℕ) (ending : HasEnding separator (drop start line) (At place)) → (is_named ≡ true → cell_text ending.0 ≡ name)
+      → (is_named ≡ false → cell_text ending.0 ≢ name)
+      → (more : IsBehind separator (before + 1) line (start + (place + 1))) × AreFound (IsNamedCell more.earlier name) (found_with found before is_named)
+  record_more place ending same other = (
+    behind_more separator before line start behind place ending,
+    subst (λ cells. AreFound (IsNamedCell cells name) (found_with found before is_named)) (sym (behind_more-earlier separator before line start behind place ending))
+        (found_cell behind.earlier ending.0 name found are before behind.many is_named same other),
+  )
+
+  -- The field that begins here is the last one.
+  pub record_last : (ending : HasEnding separator (drop start line) Last) → (is_named ≡ true → cell_text ending.0 ≡ name)
+      → (is_named ≡ false → cell_text ending.0 ≢ name)
+      → (is : IsRecord separator line) × AreFound (IsNamedIn is name) (found_with found before is_named)
+  record_last ending same other = (
+    record {
+      earlier = behind.earlier;
+      last = ending.0;
+      are = behind.are;
+      is = ending.1;
+      whole = behind.whole ∙ ap (λ t. fronts separator behind.earlier ++ t) ending.2;
+    },
+    found_cell behind.earlier ending.0 name found are before behind.many is_named same other,
+  )

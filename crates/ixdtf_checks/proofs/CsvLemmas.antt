@@ -285,6 +285,10 @@ fronts_most separator (x ∷ xs) = omega (arith, fronts_most separator xs, lengt
 pub behind_none : (separator : ℕ) (line : List ℕ) → IsBehind separator 0 line 0
 behind_none separator line = record { earlier = []; are = tt; many = refl; begins = refl; within = omega arith; whole = refl }
 
+pub behind_none-earlier : (separator : ℕ) (line : List ℕ) → (behind_none separator line).earlier ≡ []
+unfolding behind_none
+behind_none-earlier separator line = refl
+
 module _ (separator count : ℕ) (line : List ℕ) (start : ℕ) (behind : IsBehind separator count line start) where
   pub behind_more : (place : ℕ) → HasEnding separator (drop start line) (At place) → IsBehind separator (count + 1) line (start + (place + 1))
   behind_more place (cell, is, long, inside, whole) =
@@ -301,6 +305,10 @@ module _ (separator count : ℕ) (line : List ℕ) (start : ℕ) (behind : IsBeh
             ∙ sym (append_assoc (fronts separator behind.earlier) (spelled cell ++ separator ∷ []) (drop (start + (place + 1)) line))
             ∙ ap (λ t. t ++ drop (start + (place + 1)) line) (sym same);
       }
+
+  pub behind_more-earlier : (place : ℕ) (ending : HasEnding separator (drop start line) (At place)) → (behind_more place ending).earlier ≡ behind.earlier ++ ending.0 ∷ []
+  unfolding behind_more
+  behind_more-earlier place (cell, is, long, inside, whole) = refl
 
   pub behind_last : (most : ℕ) → count < most → HasEnding separator (drop start line) Last → HasFew separator most line
   behind_last most few (cell, is, whole) = record {

@@ -83,7 +83,7 @@ fn begins_quoted(bytes: &[u8]) -> bool
 }
 
 /// Returns where the first field ends.
-fn first_ending(separator: u8, bytes: &[u8]) -> Ending
+pub fn first_ending(separator: u8, bytes: &[u8]) -> Ending
     ensures ending { HasEnding separator bytes.now result }
     ensures within { place_in result ≤ length bytes.now }
 {
@@ -228,7 +228,7 @@ fn check_record(separator: u8, bytes: &[u8]) -> Result<(), Broken>
 
 /// Returns the `Part` of a line that belongs to a field. `bytes` are the bytes of the field in the line, with the quotes around
 /// it if there are any. `start` is the number of bytes of the line before the field.
-fn part_in<'a>(start: usize, bytes: &'a [u8], unquoted: &'a mut [u8; LINE_LIMIT]) -> Part<'a>
+pub fn part_in<'a>(start: usize, bytes: &'a [u8], unquoted: &'a mut [u8; LINE_LIMIT]) -> Part<'a>
     requires { start + length bytes.now ≤ 65536 }
     ensures part { (separator : ℕ) (cell : Cell) → IsCell separator cell → bytes.entry.now ≡ spelled cell
         → seen_part result ≡ text_in start cell }

@@ -1,10 +1,12 @@
 //! Finds the field that has a given name in the first line of a file.
-ghost use Rattle.std.specs.Prelude.{◌≡◌, ◌≢◌, ℕ, List, true, false, Some, None, if◌then◌else◌, IfOk, IfErr};
-ghost use Rattle.ixdtf_checks.specs.Columns.{HasNoColumn, IsColumn, IsMissing};
+ghost use Rattle.std.specs.Prelude.{◌≡◌, ◌≢◌, ◌≤◌, ℕ, true, false, length, IfOk, IfErr, MatchOption};
+ghost use Rattle.ixdtf_checks.specs.Columns.{AreFound, HasNoColumn, HasNoRecordColumn, IsColumn, IsNamedIn, IsRecordColumn, TellsOneField, cell_text, found_with};
+ghost use Rattle.ixdtf_checks.specs.Csv.{Cell, IsBad, IsCell, IsRecord, spelled};
+ghost use Rattle.ixdtf_checks.specs.declared.csv.Broken.{Broken};
 ghost use Rattle.ixdtf_checks.specs.Parts.{line_in};
 
-use crate::line_part::{Lost, front_field, line_in, part_of};
-use crate::request::{Extent, Field};
+use crate::csv::{Ending, first_ending, part_in};
+use crate::line_part::{front_field, line_in};
 use crate::verdict::LINE_LIMIT;
 use ixdtf_buffers::place::place_of;
 
@@ -41,6 +43,17 @@ impl ColumnError {
     }
 }
 
+/// Which of the fields so far have the name.
+#[derive(Clone, Copy)]
+enum Found {
+    /// No field has it.
+    Nothing,
+    /// Only the field that has this number of fields before it.
+    One(usize),
+    /// At least two fields have it.
+    Several,
+}
+
 /// Returns the number of fields before the field that has this name in the first line of a file.
 ///
 /// # Errors
@@ -53,29 +66,20 @@ pub fn column_named(separator: u8, name: &[u8], first: &[u8]) -> Result<usize, C
     ensures err { IfErr result (λ error. HasNoColumn error separator name.now (line_in true first.now)) }
 {
     let line = line_in(true, first);
-    let mut found = None;
+    let mut found = Found::Nothing;
     let mut start = 0;
     let mut before = 0;
     'fields: while let Some(place) = place_of(separator, &line[start..]) {
-        match one_named(
-            found,
-            before,
-            is_named(front_field(separator, &line[start..]), name),
-        ) {
-            Ok(kept) => found = kept,
-            Err(error) => return Err(error),
-        }
+        let is_named = is_named(front_field(separator, &line[start..]), name);
+        found = found_with(found, before, is_named);
         start += place + 1;
         before += 1;
     }
-    match one_named(
-        found,
-        before,
-        is_named(front_field(separator, &line[start..]), name),
-    ) {
-        Ok(None) => Err(missing_in(separator, line)),
-        Ok(Some(column)) => Ok(column),
-        Err(error) => Err(error),
+    let is_named = is_named(front_field(separator, &line[start..]), name);
+    match found_with(found, before, is_named) {
+        Found::Nothing => Err(missing_in(separator, line)),
+        Found::One(column) => Ok(column),
+        Found::Several => Err(ColumnError::Twice),
     }
 }
 
@@ -94,37 +98,66 @@ pub fn column_in_record(
     name: &[u8],
     first: &[u8],
     unquoted: &mut [u8; LINE_LIMIT],
-) -> Result<usize, ColumnError> {
+) -> Result<usize, ColumnError>
+    ensures ok { IfOk result (λ before. IsRecordColumn separator name.now (line_in true first.now) before) }
+    ensures err { IfErr result (λ error. HasNoRecordColumn error separator name.now (line_in true first.now)) }
+{
     let line = line_in(true, first);
     if line.len() > LINE_LIMIT {
         return Err(ColumnError::Missing);
     }
-    let mut found = None;
-    for before in 0..=line.len() {
-        let field = Field {
-            before,
-            separator,
-            extent: Extent::Csv,
-        };
-        match part_of(field, line, unquoted) {
-            Ok(part) => match one_named(found, before, is_named(part.text, name)) {
-                Ok(kept) => found = kept,
-                Err(error) => return Err(error),
-            },
-            Err(Lost::NoField) => break,
-            Err(Lost::Broken(_)) => return Err(ColumnError::NoRecord),
+    match found_in_record(separator, name, line, unquoted) {
+        None => Err(ColumnError::NoRecord),
+        Some(Found::Nothing) => Err(missing_in(separator, line)),
+        Some(Found::One(column)) => Ok(column),
+        Some(Found::Several) => Err(ColumnError::Twice),
+    }
+}
+
+/// Returns which fields of the line have the name. Returns `None` if the line is no record of RFC 4180.
+fn found_in_record(
+    separator: u8,
+    name: &[u8],
+    line: &[u8],
+    unquoted: &mut [u8; LINE_LIMIT],
+) -> Option<Found>
+    requires { length line.now ≤ 65536 }
+    ensures { MatchOption result ((broken : Broken) × IsBad separator line.now broken)
+        (λ found. (is : IsRecord separator line.now) × AreFound (IsNamedIn is name.now) found) }
+{
+    let mut found = Found::Nothing;
+    let mut start = 0;
+    'fields: for before in 0..=line.len() {
+        match first_ending(separator, &line[start..]) {
+            Ending::Bad(_) => return None,
+            Ending::Last => {
+                let is_named = is_cell_named(&line[start..], name, unquoted);
+                return Some(found_with(found, before, is_named));
+            }
+            Ending::At(place) => {
+                let is_named = is_cell_named(&line[start..start + place], name, unquoted);
+                found = found_with(found, before, is_named);
+                start += place + 1;
+            }
         }
     }
-    match found {
-        Some(column) => Ok(column),
-        None => Err(missing_in(separator, line)),
-    }
+    None
+}
+
+/// Returns whether the field of a record has the name. `bytes` are the bytes of the field in the line, with the quotes around it if
+/// there are any.
+fn is_cell_named(bytes: &[u8], name: &[u8], unquoted: &mut [u8; LINE_LIMIT]) -> bool
+    requires { length bytes.now ≤ 65536 }
+    ensures yes { (separator : ℕ) (cell : Cell) → IsCell separator cell → bytes.now ≡ spelled cell → result ≡ true → cell_text cell ≡ name.now }
+    ensures no { (separator : ℕ) (cell : Cell) → IsCell separator cell → bytes.now ≡ spelled cell → result ≡ false → cell_text cell ≢ name.now }
+{
+    is_named(part_in(0, bytes, unquoted).text, name)
 }
 
 /// Returns the error about a line in which no field has the name. A line that is not empty and has no separator has an error of its
 /// own, because the user has probably forgotten `--separator`.
 fn missing_in(separator: u8, line: &[u8]) -> ColumnError
-    ensures { (name : List ℕ) → IsMissing separator name line.now → HasNoColumn result separator name line.now }
+    ensures { TellsOneField result separator line.now }
 {
     match place_of(separator, line) {
         None if !line.is_empty() => ColumnError::NoSeparator,
@@ -140,21 +173,14 @@ fn is_named(field: &[u8], name: &[u8]) -> bool
     field == name
 }
 
-/// Returns the index of the only field so far that has the name, or `None` if no field so far has it. `found` is this result
-/// for the fields before the present field, and `before` is the number of these fields. `is_named` says whether the present
-/// field has the name. Returns `Twice` if the present field is the second one with the name.
-fn one_named(
-    found: Option<usize>,
-    before: usize,
-    is_named: bool,
-) -> Result<Option<usize>, ColumnError>
-    ensures ok { IfOk result (λ kept. kept ≡ (if is_named then Some before else found)) }
-    ensures none { IfOk result (λ kept. is_named ≡ true → found ≡ None) }
-    ensures err { IfErr result (λ error. (error ≡ ColumnError.Twice) × (is_named ≡ true) × (found ≢ None)) }
+/// Returns which fields have the name if one more field is looked at. `found` is this result for the fields before the present
+/// field, and `before` is the number of these fields. `is_named` says whether the present field has the name.
+fn found_with(found: Found, before: usize, is_named: bool) -> Found
+    ensures { result ≡ found_with found before is_named }
 {
     match (found, is_named) {
-        (_, false) => Ok(found),
-        (None, true) => Ok(Some(before)),
-        (Some(_), true) => Err(ColumnError::Twice),
+        (_, false) => found,
+        (Found::Nothing, true) => Found::One(before),
+        (Found::One(_) | Found::Several, true) => Found::Several,
     }
 }
