@@ -1,3 +1,4 @@
+pub mod ArgumentLemmas
 pub mod CanonicalLemmas
 pub mod CharactersLemmas
 pub mod ColouredLemmas

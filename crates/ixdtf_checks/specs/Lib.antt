@@ -1,3 +1,4 @@
+pub mod Arguments
 pub mod Canonicals
 pub mod Checks
 pub mod Coloured

@@ -1,13 +1,17 @@
 //! The arguments of the program: the words after its name.
+ghost use Rattle.std.specs.Prelude.{◌≡◌, ◌↔◌, true, false, drop, IfSome, IsSome};
+ghost use Rattle.std.specs.Str.{IsCharBoundary};
+ghost use Rattle.ixdtf_checks.specs.Arguments.{IsFileName, TakesAny, TakesAwaited, TakesOption, TakesValue, TakesWithValue, TakesWord, no_options, with_setting};
+ghost use Rattle.ixdtf_checks.specs.Arguments.{IsMisfit, IsMisfitOf, is_one_field, joins_other_fields, named_in};
+ghost use Rattle.ixdtf_checks.specs.Arguments.{AreSkips, IsRequest, field_after, format_with, numbered, settled, task_of};
 
 use crate::csv::QUOTE;
 use crate::kind::{InstantKind, Kind};
 use crate::nearest::{COLORS, FORMATS, KINDS, OPTIONS, nearest_of};
+use crate::option_name::{Meaning, OptionName};
+use crate::option_value::{Color, Column, Setting, TAB, Valued, setting_of};
 use crate::request::{Extent, Field, Format, Request, Skips, Task};
 use ixdtf::parsers::Profile;
-
-/// The separator of fields, if no option gives another one.
-const TAB: u8 = b'\t';
 
 /// The separator of the fields of `--csv`, if there is no `--separator`.
 const COMMA: u8 = b',';
@@ -151,25 +155,12 @@ pub fn meant_by(word: &str, wrong: Wrong) -> Option<&'static str> {
 /// What the program expects as the next word.
 #[derive(Clone, Copy, Debug, PartialEq)]
 enum Awaited {
+    /// An option, or the name of a file.
     Anything,
-    Kind,
-    Field,
-    Fields,
-    Separator,
-    Comment,
-    MaxReports,
-    Format,
-    Color,
+    /// The value of this option.
+    Value(Valued),
+    /// The name of a file.
     File,
-}
-
-/// When reports as a text have colours.
-#[derive(Clone, Copy, Debug, PartialEq)]
-enum Color {
-    /// If they go to a terminal that shows colours.
-    Auto,
-    Always,
-    Never,
 }
 
 /// The position of the name of a field in the arguments. The name is the value of `--field`.
@@ -183,20 +174,11 @@ pub struct FieldName {
 
 impl FieldName {
     /// Returns the name. `word` is the word that contains it.
-    pub fn in_word(self, word: &str) -> &str {
+    pub fn in_word(self, word: &str) -> &str
+        ensures { IsCharBoundary word.now self.start → result.now ≡ drop self.start word.now }
+    {
         word.get(self.start..).unwrap_or("")
     }
-}
-
-/// The field or the fields of a line that are its text.
-#[derive(Clone, Copy, Debug, PartialEq)]
-enum Column {
-    /// The field that has this number of fields before it.
-    After(usize),
-    /// The field that has a given name in the first line of a file.
-    Named(FieldName),
-    /// `Between(before, more)`: the field that has `before` fields before it, and the `more` fields after it.
-    Between(usize, usize),
 }
 
 /// The options of the program. Each call of `take` applies one more word to them.
@@ -221,7 +203,9 @@ pub struct Options {
 
 impl Options {
     /// Creates the options before the first word: no option is set.
-    pub fn new() -> Options {
+    pub fn new() -> Options
+        ensures { result ≡ no_options }
+    {
         Options {
             awaited: Awaited::Anything,
             words: 0,
@@ -241,41 +225,30 @@ impl Options {
     }
 
     /// Applies the next word to the options, and returns the role of the word.
-    pub fn take(&mut self, word: &str) -> Word {
-        let taken = match self.awaited {
-            Awaited::Anything => self.take_any(word),
-            Awaited::Kind
-            | Awaited::Field
-            | Awaited::Fields
-            | Awaited::Separator
-            | Awaited::Comment
-            | Awaited::MaxReports
-            | Awaited::Format
-            | Awaited::Color => self.take_value(word, 0),
-            Awaited::File => Word::File,
-        };
+    pub fn take(&mut self, word: &str) -> Word
+        ensures { TakesWord self.old word.now result self.new }
+    {
+        let taken = self.take_awaited(word);
         self.words = self.words.saturating_add(1);
         taken
     }
 
-    /// Applies the value of the option that awaits one. `start` is the index at which the value begins in its word.
-    fn take_value(&mut self, value: &str, start: usize) -> Word {
+    /// Applies a word, but does not count it.
+    fn take_awaited(&mut self, word: &str) -> Word
+        ensures { TakesAwaited self.old.awaited self.old word.now result self.new }
+    {
         match self.awaited {
-            Awaited::Kind => self.take_kind(value),
-            Awaited::Field => self.take_field(value, start),
-            Awaited::Fields => self.take_fields(value),
-            Awaited::Separator => self.take_separator(value),
-            Awaited::Comment => self.take_comment(value),
-            Awaited::MaxReports => self.take_count(value),
-            Awaited::Format => self.take_format(value),
-            Awaited::Color => self.take_color(value),
-            Awaited::Anything | Awaited::File => Word::Wrong(Wrong::UnexpectedValue),
+            Awaited::Anything => self.take_any(word),
+            Awaited::Value(option) => self.take_value(option, word, 0),
+            Awaited::File => Word::File,
         }
     }
 
     /// Applies a word that is not the value of the word before it.
-    fn take_any(&mut self, word: &str) -> Word {
-        if word == "-" || !word.starts_with('-') {
+    fn take_any(&mut self, word: &str) -> Word
+        ensures { TakesAny self.old word.now result self.new }
+    {
+        if is_file(word.as_bytes()) {
             return Word::File;
         }
         match word.split_once('=') {
@@ -284,188 +257,94 @@ impl Options {
         }
     }
 
-    /// Applies an option that has no `=`. If the option needs a value, the next word is the value.
-    fn take_option(&mut self, option: &str) -> Word {
-        if option == "--help" || option == "-h" {
-            return Word::Help;
+    /// Applies an option that has no `=`. If the option has a value, the next word is the value.
+    fn take_option(&mut self, option: &str) -> Word
+        ensures { TakesOption self.old option.now result self.new }
+    {
+        match OptionName::named(option.as_bytes()) {
+            None => Word::Wrong(Wrong::UnknownOption),
+            Some(option) => match option.meaning() {
+                Meaning::Help => Word::Help,
+                Meaning::Version => Word::Version,
+                Meaning::Files => {
+                    self.awaited = Awaited::File;
+                    Word::Option
+                }
+                Meaning::Sets(setting) => {
+                    self.set(setting);
+                    Word::Option
+                }
+                Meaning::Takes(option) => {
+                    self.awaited = Awaited::Value(option);
+                    Word::Option
+                }
+            },
         }
-        if option == "--version" || option == "-V" {
-            return Word::Version;
-        }
-        if option == "--strict" {
-            self.is_strict = true;
-        } else if option == "--header" {
-            self.skips.header = true;
-        } else if option == "--skip-blank" {
-            self.skips.blank = true;
-        } else if option == "--csv" {
-            self.is_csv = true;
-        } else if option == "--canonical" {
-            self.is_canonical = true;
-        } else if option == "--ordered" {
-            self.is_ordered = true;
-        } else if option == "--quiet" {
-            self.is_quiet = true;
-        } else if option == "--" {
-            self.awaited = Awaited::File;
-        } else if !self.awaits_value_of(option) {
-            return Word::Wrong(Wrong::UnknownOption);
-        }
-        Word::Option
-    }
-
-    /// If the option needs a value, sets `awaited` so that this value is applied next, and returns `true`. Returns `false` if
-    /// no option of this name needs a value.
-    fn awaits_value_of(&mut self, option: &str) -> bool {
-        if option == "--kind" {
-            self.awaited = Awaited::Kind;
-        } else if option == "--field" {
-            self.awaited = Awaited::Field;
-        } else if option == "--fields" {
-            self.awaited = Awaited::Fields;
-        } else if option == "--separator" {
-            self.awaited = Awaited::Separator;
-        } else if option == "--comment" {
-            self.awaited = Awaited::Comment;
-        } else if option == "--max-reports" {
-            self.awaited = Awaited::MaxReports;
-        } else if option == "--format" {
-            self.awaited = Awaited::Format;
-        } else if option == "--color" {
-            self.awaited = Awaited::Color;
-        } else {
-            return false;
-        }
-        true
     }
 
     /// Applies an option and its value, which were one word with a `=` between them.
-    fn take_with_value(&mut self, option: &str, value: &str) -> Word {
-        if self.awaits_value_of(option) {
-            return self.take_value(value, option.len().saturating_add(1));
-        }
-        if self.take_option(option) == Word::Wrong(Wrong::UnknownOption) {
-            return Word::Wrong(Wrong::UnknownOption);
-        }
-        Word::Wrong(Wrong::UnexpectedValue)
-    }
-
-    /// Applies the value of `--kind`, the name of a kind.
-    fn take_kind(&mut self, word: &str) -> Word {
-        self.awaited = Awaited::Anything;
-        self.kind = Kind::named(word.as_bytes());
-        if self.kind.is_some() {
-            Word::Option
-        } else {
-            Word::Wrong(Wrong::UnknownKind)
+    fn take_with_value(&mut self, option: &str, value: &str) -> Word
+        ensures { TakesWithValue self.old option.now value.now result self.new }
+    {
+        match OptionName::named(option.as_bytes()) {
+            None => Word::Wrong(Wrong::UnknownOption),
+            Some(name) => match name.meaning() {
+                Meaning::Takes(valued) => {
+                    self.take_value(valued, value, option.len().saturating_add(1))
+                }
+                Meaning::Help | Meaning::Version | Meaning::Files | Meaning::Sets(_) => {
+                    Word::Wrong(Wrong::UnexpectedValue)
+                }
+            },
         }
     }
 
-    /// Applies the value of `--field`, a number or a name. `start` is the index at which the value begins in its word.
-    fn take_field(&mut self, value: &str, start: usize) -> Word {
-        self.awaited = Awaited::Anything;
-        let column = match value.parse::<usize>() {
-            Ok(number) if number > 0 => Column::After(number.saturating_sub(1)),
-            Err(_) if !value.is_empty() => Column::Named(FieldName {
-                word: self.words,
-                start,
-            }),
-            Ok(_) | Err(_) => return Word::Wrong(Wrong::InvalidField),
+    /// Applies the value of an option. `start` is the index at which the value begins in its word.
+    fn take_value(&mut self, option: Valued, value: &str, start: usize) -> Word
+        ensures { TakesValue option start self.old value.now result self.new }
+    {
+        let place = FieldName {
+            word: self.words,
+            start,
         };
-        self.column = Some(column);
-        Word::Option
-    }
-
-    /// Applies the value of `--fields`, the numbers of the first and the last field.
-    fn take_fields(&mut self, value: &str) -> Word {
         self.awaited = Awaited::Anything;
-        let Some((first, last)) = value.split_once('-') else {
-            return Word::Wrong(Wrong::InvalidFields);
-        };
-        match (first.parse::<usize>(), last.parse::<usize>()) {
-            (Ok(first), Ok(last)) if first > 0 && first <= last => {
-                self.column = Some(Column::Between(
-                    first.saturating_sub(1),
-                    last.saturating_sub(first),
-                ));
+        match setting_of(option, value, place) {
+            Ok(setting) => {
+                self.set(setting);
                 Word::Option
             }
-            _ => Word::Wrong(Wrong::InvalidFields),
+            Err(wrong) => Word::Wrong(wrong),
         }
     }
 
-    /// Applies the value of `--separator`: one byte, or `\t` for a tab.
-    fn take_separator(&mut self, word: &str) -> Word {
-        self.awaited = Awaited::Anything;
-        match word.as_bytes() {
-            [byte] => {
-                self.separator = Some(*byte);
-                Word::Option
-            }
-            [b'\\', b't'] => {
-                self.separator = Some(b'\t');
-                Word::Option
-            }
-            _ => Word::Wrong(Wrong::InvalidSeparator),
+    /// Applies a setting. It replaces what an earlier option of the same name says.
+    fn set(&mut self, setting: Setting)
+        ensures { self.new ≡ with_setting setting self.old }
+    {
+        match setting {
+            Setting::Strict => self.is_strict = true,
+            Setting::Ordered => self.is_ordered = true,
+            Setting::Csv => self.is_csv = true,
+            Setting::Header => self.skips.header = true,
+            Setting::SkipBlank => self.skips.blank = true,
+            Setting::Canonical => self.is_canonical = true,
+            Setting::Quiet => self.is_quiet = true,
+            Setting::Kind(kind) => self.kind = Some(kind),
+            Setting::Column(column) => self.column = Some(column),
+            Setting::Separator(byte) => self.separator = Some(byte),
+            Setting::Comment(byte) => self.skips.comment = Some(byte),
+            Setting::MaxReports(count) => self.most_reports = Some(count),
+            Setting::Format(format) => self.format = format,
+            Setting::Color(color) => self.color = color,
         }
-    }
-
-    /// Applies the value of `--comment`, the byte with which comments begin.
-    fn take_comment(&mut self, word: &str) -> Word {
-        self.awaited = Awaited::Anything;
-        match word.as_bytes() {
-            [byte] => {
-                self.skips.comment = Some(*byte);
-                Word::Option
-            }
-            _ => Word::Wrong(Wrong::InvalidComment),
-        }
-    }
-
-    /// Applies the value of `--max-reports`, the greatest number of reports.
-    fn take_count(&mut self, word: &str) -> Word {
-        self.awaited = Awaited::Anything;
-        match word.parse::<u64>() {
-            Ok(number) => {
-                self.most_reports = Some(number);
-                Word::Option
-            }
-            Err(_) => Word::Wrong(Wrong::InvalidCount),
-        }
-    }
-
-    /// Applies the value of `--format`, the name of a form of reports.
-    fn take_format(&mut self, word: &str) -> Word {
-        self.awaited = Awaited::Anything;
-        if word == "text" {
-            self.format = Format::Text;
-        } else if word == "json" {
-            self.format = Format::Json;
-        } else {
-            return Word::Wrong(Wrong::UnknownFormat);
-        }
-        Word::Option
-    }
-
-    /// Applies the value of `--color`.
-    fn take_color(&mut self, word: &str) -> Word {
-        self.awaited = Awaited::Anything;
-        if word == "auto" {
-            self.color = Color::Auto;
-        } else if word == "always" {
-            self.color = Color::Always;
-        } else if word == "never" {
-            self.color = Color::Never;
-        } else {
-            return Word::Wrong(Wrong::UnknownColor);
-        }
-        Word::Option
     }
 
     /// Decides whether reports have colours, if `--color` is missing or has the value `auto`. Reports as objects of JSON never have
     /// colours. `shows_colors` says whether the reports go to a terminal that shows colours. Call this function after all words.
     /// Without a call, `auto` means no colours.
-    pub fn settle_color(&mut self, shows_colors: bool) {
+    pub fn settle_color(&mut self, shows_colors: bool)
+        ensures { self.new ≡ record self.old { color = settled shows_colors self.old.color } }
+    {
         if self.color == Color::Auto && shows_colors {
             self.color = Color::Always;
         }
@@ -473,18 +352,24 @@ impl Options {
 
     /// Returns whether there is `--canonical`. With this option, the canonical texts go to standard output, and the reports go to
     /// standard error.
-    pub fn has_two_outputs(&self) -> bool {
+    pub fn has_two_outputs(&self) -> bool
+        ensures { result ≡ self.now.is_canonical }
+    {
         self.is_canonical
     }
 
     /// Returns whether the numbers of lines, of refused lines and of bytes are written to standard error. If the reports go to standard
     /// error as objects of JSON, these numbers are not written there. Then standard error contains only objects, if nothing fails.
-    pub fn has_counts(&self) -> bool {
+    pub fn has_counts(&self) -> bool
+        ensures { (result ≡ false) ↔ ((self.now.is_canonical ≡ true) × (self.now.format ≡ Format.Json)) }
+    {
         !(self.has_two_outputs() && self.format == Format::Json)
     }
 
     /// Returns the form of the reports. Objects of JSON never have colours.
-    fn format_with_color(&self) -> Format {
+    fn format_with_color(&self) -> Format
+        ensures { result ≡ format_with self.now.format self.now.color }
+    {
         if self.format == Format::Text && self.color == Color::Always {
             Format::Coloured
         } else {
@@ -493,17 +378,12 @@ impl Options {
     }
 
     /// Returns the reason why the words do not fit together. Returns `None` if they do.
-    pub fn wrong(&self) -> Option<Wrong> {
+    pub fn wrong(&self) -> Option<Wrong>
+        ensures { IsMisfitOf self.now result }
+    {
         let kind = self.kind.unwrap_or(Kind::DateTime);
         match self.awaited {
-            Awaited::Kind
-            | Awaited::Field
-            | Awaited::Fields
-            | Awaited::Separator
-            | Awaited::Comment
-            | Awaited::MaxReports
-            | Awaited::Format
-            | Awaited::Color => Some(Wrong::MissingValue),
+            Awaited::Value(_) => Some(Wrong::MissingValue),
             Awaited::Anything | Awaited::File => {
                 if self.separator.is_some() && self.column.is_none() {
                     Some(Wrong::SeparatorWithoutField)
@@ -528,7 +408,9 @@ impl Options {
 
     /// Returns the position of the name in `--field NAME`. Returns `None` if `--field` has a number or is
     /// missing, or if `--fields` comes after it.
-    pub fn field_name(&self) -> Option<FieldName> {
+    pub fn field_name(&self) -> Option<FieldName>
+        ensures { result ≡ named_in self.now.column }
+    {
         match self.column {
             Some(Column::Named(field_name)) => Some(field_name),
             Some(Column::After(_) | Column::Between(_, _)) | None => None,
@@ -536,7 +418,9 @@ impl Options {
     }
 
     /// Returns whether the text is one field of a line.
-    fn is_one_field(&self) -> bool {
+    fn is_one_field(&self) -> bool
+        ensures { result ≡ is_one_field self.now.column }
+    {
         match self.column {
             Some(Column::After(_) | Column::Named(_)) => true,
             Some(Column::Between(_, _)) | None => false,
@@ -545,7 +429,9 @@ impl Options {
 
     /// Returns whether `--fields` says which fields are the text, and `--separator` has another value than a space. The program
     /// refuses this combination.
-    fn joins_other_fields(&self) -> bool {
+    fn joins_other_fields(&self) -> bool
+        ensures { result ≡ joins_other_fields self.now.column self.now.separator }
+    {
         match (self.column, self.separator) {
             (Some(Column::Between(_, _)), Some(separator)) => separator != SPACE,
             _ => false,
@@ -554,7 +440,9 @@ impl Options {
 
     /// Returns the field that has `before` fields before it. The separator is that of `--separator`. Without this option, it is a
     /// comma if there is `--csv`, and otherwise a tab.
-    pub fn field_after(&self, before: usize) -> Field {
+    pub fn field_after(&self, before: usize) -> Field
+        ensures { result ≡ field_after self.now before }
+    {
         Field {
             before,
             separator: self
@@ -570,7 +458,10 @@ impl Options {
 
     /// Returns the request for a file with this name. Returns `None` if the words do not fit together. If the words name a field,
     /// the caller has to find this field in the first line of the file, and to set `field` of the request.
-    pub fn request<'n>(&self, name: &'n str) -> Option<Request<'n>> {
+    pub fn request<'n>(&self, name: &'n str) -> Option<Request<'n>>
+        ensures some { IfSome result (λ request. IsRequest self.now name.entry.now request) }
+        ensures fits { IsSome result ↔ ((wrong : Wrong) → ¬ (IsMisfit wrong self.now)) }
+    {
         if self.wrong().is_some() {
             return None;
         }
@@ -591,7 +482,9 @@ impl Options {
     }
 
     /// Returns the field, if `--field` has a number, or the fields of `--fields`.
-    fn numbered_field(&self) -> Option<Field> {
+    fn numbered_field(&self) -> Option<Field>
+        ensures { result ≡ numbered self.now self.now.column }
+    {
         match self.column {
             Some(Column::After(before)) => Some(self.field_after(before)),
             Some(Column::Between(before, more)) => Some(Field {
@@ -604,7 +497,9 @@ impl Options {
     }
 
     /// Returns which lines are skipped. Returns `None` if no line is skipped.
-    fn skips(&self) -> Option<Skips> {
+    fn skips(&self) -> Option<Skips>
+        ensures { AreSkips self.now.skips result }
+    {
         if self.skips == NOTHING_SKIPPED {
             None
         } else {
@@ -613,7 +508,9 @@ impl Options {
     }
 
     /// Returns the task for each text.
-    fn task(&self) -> Task {
+    fn task(&self) -> Task
+        ensures { result ≡ task_of self.now }
+    {
         let kind = self.kind.unwrap_or(Kind::DateTime);
         if self.is_canonical {
             return Task::Print(kind);
@@ -622,5 +519,17 @@ impl Options {
             Some(kind) if self.is_ordered => Task::Order(kind),
             _ => Task::Check(kind),
         }
+    }
+}
+
+/// Returns whether the word is the name of a file, or `-`.
+fn is_file(word: &[u8]) -> bool
+    ensures yes { result ≡ true → IsFileName word.now }
+    ensures no { result ≡ false → ¬ (IsFileName word.now) }
+{
+    match word {
+        [b'-'] => true,
+        [first, ..] => *first != b'-',
+        [] => true,
     }
 }

@@ -22,6 +22,8 @@ mod line_part;
 mod marked_text;
 pub mod named_column;
 mod nearest;
+mod option_name;
+mod option_value;
 mod printed_line;
 mod printing;
 mod reading;

@@ -5,11 +5,10 @@
 use crate::csv::QUOTE;
 use crate::kind::{InstantKind, Kind};
 use crate::nearest::{COLORS, FORMATS, KINDS, OPTIONS, nearest_of};
+use crate::option_name::{Meaning, OptionName};
+use crate::option_value::{Color, Column, Setting, TAB, Valued, setting_of};
 use crate::request::{Extent, Field, Format, Request, Skips, Task};
 use ixdtf::parsers::Profile;
-
-/// The separator of fields, if no option gives another one.
-const TAB: u8 = b'\t';
 
 /// The separator of the fields of `--csv`, if there is no `--separator`.
 const COMMA: u8 = b',';
@@ -153,25 +152,12 @@ pub fn meant_by(word: &str, wrong: Wrong) -> Option<&'static str> {
 /// What the program expects as the next word.
 #[derive(Clone, Copy, Debug, PartialEq)]
 enum Awaited {
+    /// An option, or the name of a file.
     Anything,
-    Kind,
-    Field,
-    Fields,
-    Separator,
-    Comment,
-    MaxReports,
-    Format,
-    Color,
+    /// The value of this option.
+    Value(Valued),
+    /// The name of a file.
     File,
-}
-
-/// When reports as a text have colours.
-#[derive(Clone, Copy, Debug, PartialEq)]
-enum Color {
-    /// If they go to a terminal that shows colours.
-    Auto,
-    Always,
-    Never,
 }
 
 /// The position of the name of a field in the arguments. The name is the value of `--field`.
@@ -188,17 +174,6 @@ impl FieldName {
     pub fn in_word(self, word: &str) -> &str {
         word.get(self.start..).unwrap_or("")
     }
-}
-
-/// The field or the fields of a line that are its text.
-#[derive(Clone, Copy, Debug, PartialEq)]
-enum Column {
-    /// The field that has this number of fields before it.
-    After(usize),
-    /// The field that has a given name in the first line of a file.
-    Named(FieldName),
-    /// `Between(before, more)`: the field that has `before` fields before it, and the `more` fields after it.
-    Between(usize, usize),
 }
 
 /// The options of the program. Each call of `take` applies one more word to them.
@@ -244,40 +219,23 @@ impl Options {
 
     /// Applies the next word to the options, and returns the role of the word.
     pub fn take(&mut self, word: &str) -> Word {
-        let taken = match self.awaited {
-            Awaited::Anything => self.take_any(word),
-            Awaited::Kind
-            | Awaited::Field
-            | Awaited::Fields
-            | Awaited::Separator
-            | Awaited::Comment
-            | Awaited::MaxReports
-            | Awaited::Format
-            | Awaited::Color => self.take_value(word, 0),
-            Awaited::File => Word::File,
-        };
+        let taken = self.take_awaited(word);
         self.words = self.words.saturating_add(1);
         taken
     }
 
-    /// Applies the value of the option that awaits one. `start` is the index at which the value begins in its word.
-    fn take_value(&mut self, value: &str, start: usize) -> Word {
+    /// Applies a word, but does not count it.
+    fn take_awaited(&mut self, word: &str) -> Word {
         match self.awaited {
-            Awaited::Kind => self.take_kind(value),
-            Awaited::Field => self.take_field(value, start),
-            Awaited::Fields => self.take_fields(value),
-            Awaited::Separator => self.take_separator(value),
-            Awaited::Comment => self.take_comment(value),
-            Awaited::MaxReports => self.take_count(value),
-            Awaited::Format => self.take_format(value),
-            Awaited::Color => self.take_color(value),
-            Awaited::Anything | Awaited::File => Word::Wrong(Wrong::UnexpectedValue),
+            Awaited::Anything => self.take_any(word),
+            Awaited::Value(option) => self.take_value(option, word, 0),
+            Awaited::File => Word::File,
         }
     }
 
     /// Applies a word that is not the value of the word before it.
     fn take_any(&mut self, word: &str) -> Word {
-        if word == "-" || !word.starts_with('-') {
+        if is_file(word.as_bytes()) {
             return Word::File;
         }
         match word.split_once('=') {
@@ -286,182 +244,78 @@ impl Options {
         }
     }
 
-    /// Applies an option that has no `=`. If the option needs a value, the next word is the value.
+    /// Applies an option that has no `=`. If the option has a value, the next word is the value.
     fn take_option(&mut self, option: &str) -> Word {
-        if option == "--help" || option == "-h" {
-            return Word::Help;
+        match OptionName::named(option.as_bytes()) {
+            None => Word::Wrong(Wrong::UnknownOption),
+            Some(option) => match option.meaning() {
+                Meaning::Help => Word::Help,
+                Meaning::Version => Word::Version,
+                Meaning::Files => {
+                    self.awaited = Awaited::File;
+                    Word::Option
+                }
+                Meaning::Sets(setting) => {
+                    self.set(setting);
+                    Word::Option
+                }
+                Meaning::Takes(option) => {
+                    self.awaited = Awaited::Value(option);
+                    Word::Option
+                }
+            },
         }
-        if option == "--version" || option == "-V" {
-            return Word::Version;
-        }
-        if option == "--strict" {
-            self.is_strict = true;
-        } else if option == "--header" {
-            self.skips.header = true;
-        } else if option == "--skip-blank" {
-            self.skips.blank = true;
-        } else if option == "--csv" {
-            self.is_csv = true;
-        } else if option == "--canonical" {
-            self.is_canonical = true;
-        } else if option == "--ordered" {
-            self.is_ordered = true;
-        } else if option == "--quiet" {
-            self.is_quiet = true;
-        } else if option == "--" {
-            self.awaited = Awaited::File;
-        } else if !self.awaits_value_of(option) {
-            return Word::Wrong(Wrong::UnknownOption);
-        }
-        Word::Option
-    }
-
-    /// If the option needs a value, sets `awaited` so that this value is applied next, and returns `true`. Returns `false` if
-    /// no option of this name needs a value.
-    fn awaits_value_of(&mut self, option: &str) -> bool {
-        if option == "--kind" {
-            self.awaited = Awaited::Kind;
-        } else if option == "--field" {
-            self.awaited = Awaited::Field;
-        } else if option == "--fields" {
-            self.awaited = Awaited::Fields;
-        } else if option == "--separator" {
-            self.awaited = Awaited::Separator;
-        } else if option == "--comment" {
-            self.awaited = Awaited::Comment;
-        } else if option == "--max-reports" {
-            self.awaited = Awaited::MaxReports;
-        } else if option == "--format" {
-            self.awaited = Awaited::Format;
-        } else if option == "--color" {
-            self.awaited = Awaited::Color;
-        } else {
-            return false;
-        }
-        true
     }
 
     /// Applies an option and its value, which were one word with a `=` between them.
     fn take_with_value(&mut self, option: &str, value: &str) -> Word {
-        if self.awaits_value_of(option) {
-            return self.take_value(value, option.len().saturating_add(1));
-        }
-        if self.take_option(option) == Word::Wrong(Wrong::UnknownOption) {
-            return Word::Wrong(Wrong::UnknownOption);
-        }
-        Word::Wrong(Wrong::UnexpectedValue)
-    }
-
-    /// Applies the value of `--kind`, the name of a kind.
-    fn take_kind(&mut self, word: &str) -> Word {
-        self.awaited = Awaited::Anything;
-        self.kind = Kind::named(word.as_bytes());
-        if self.kind.is_some() {
-            Word::Option
-        } else {
-            Word::Wrong(Wrong::UnknownKind)
+        match OptionName::named(option.as_bytes()) {
+            None => Word::Wrong(Wrong::UnknownOption),
+            Some(name) => match name.meaning() {
+                Meaning::Takes(valued) => {
+                    self.take_value(valued, value, option.len().saturating_add(1))
+                }
+                Meaning::Help | Meaning::Version | Meaning::Files | Meaning::Sets(_) => {
+                    Word::Wrong(Wrong::UnexpectedValue)
+                }
+            },
         }
     }
 
-    /// Applies the value of `--field`, a number or a name. `start` is the index at which the value begins in its word.
-    fn take_field(&mut self, value: &str, start: usize) -> Word {
-        self.awaited = Awaited::Anything;
-        let column = match value.parse::<usize>() {
-            Ok(number) if number > 0 => Column::After(number.saturating_sub(1)),
-            Err(_) if !value.is_empty() => Column::Named(FieldName {
-                word: self.words,
-                start,
-            }),
-            Ok(_) | Err(_) => return Word::Wrong(Wrong::InvalidField),
+    /// Applies the value of an option. `start` is the index at which the value begins in its word.
+    fn take_value(&mut self, option: Valued, value: &str, start: usize) -> Word {
+        let place = FieldName {
+            word: self.words,
+            start,
         };
-        self.column = Some(column);
-        Word::Option
-    }
-
-    /// Applies the value of `--fields`, the numbers of the first and the last field.
-    fn take_fields(&mut self, value: &str) -> Word {
         self.awaited = Awaited::Anything;
-        let Some((first, last)) = value.split_once('-') else {
-            return Word::Wrong(Wrong::InvalidFields);
-        };
-        match (first.parse::<usize>(), last.parse::<usize>()) {
-            (Ok(first), Ok(last)) if first > 0 && first <= last => {
-                self.column = Some(Column::Between(
-                    first.saturating_sub(1),
-                    last.saturating_sub(first),
-                ));
+        match setting_of(option, value, place) {
+            Ok(setting) => {
+                self.set(setting);
                 Word::Option
             }
-            _ => Word::Wrong(Wrong::InvalidFields),
+            Err(wrong) => Word::Wrong(wrong),
         }
     }
 
-    /// Applies the value of `--separator`: one byte, or `\t` for a tab.
-    fn take_separator(&mut self, word: &str) -> Word {
-        self.awaited = Awaited::Anything;
-        match word.as_bytes() {
-            [byte] => {
-                self.separator = Some(*byte);
-                Word::Option
-            }
-            [b'\\', b't'] => {
-                self.separator = Some(b'\t');
-                Word::Option
-            }
-            _ => Word::Wrong(Wrong::InvalidSeparator),
+    /// Applies a setting. It replaces what an earlier option of the same name says.
+    fn set(&mut self, setting: Setting) {
+        match setting {
+            Setting::Strict => self.is_strict = true,
+            Setting::Ordered => self.is_ordered = true,
+            Setting::Csv => self.is_csv = true,
+            Setting::Header => self.skips.header = true,
+            Setting::SkipBlank => self.skips.blank = true,
+            Setting::Canonical => self.is_canonical = true,
+            Setting::Quiet => self.is_quiet = true,
+            Setting::Kind(kind) => self.kind = Some(kind),
+            Setting::Column(column) => self.column = Some(column),
+            Setting::Separator(byte) => self.separator = Some(byte),
+            Setting::Comment(byte) => self.skips.comment = Some(byte),
+            Setting::MaxReports(count) => self.most_reports = Some(count),
+            Setting::Format(format) => self.format = format,
+            Setting::Color(color) => self.color = color,
         }
-    }
-
-    /// Applies the value of `--comment`, the byte with which comments begin.
-    fn take_comment(&mut self, word: &str) -> Word {
-        self.awaited = Awaited::Anything;
-        match word.as_bytes() {
-            [byte] => {
-                self.skips.comment = Some(*byte);
-                Word::Option
-            }
-            _ => Word::Wrong(Wrong::InvalidComment),
-        }
-    }
-
-    /// Applies the value of `--max-reports`, the greatest number of reports.
-    fn take_count(&mut self, word: &str) -> Word {
-        self.awaited = Awaited::Anything;
-        match word.parse::<u64>() {
-            Ok(number) => {
-                self.most_reports = Some(number);
-                Word::Option
-            }
-            Err(_) => Word::Wrong(Wrong::InvalidCount),
-        }
-    }
-
-    /// Applies the value of `--format`, the name of a form of reports.
-    fn take_format(&mut self, word: &str) -> Word {
-        self.awaited = Awaited::Anything;
-        if word == "text" {
-            self.format = Format::Text;
-        } else if word == "json" {
-            self.format = Format::Json;
-        } else {
-            return Word::Wrong(Wrong::UnknownFormat);
-        }
-        Word::Option
-    }
-
-    /// Applies the value of `--color`.
-    fn take_color(&mut self, word: &str) -> Word {
-        self.awaited = Awaited::Anything;
-        if word == "auto" {
-            self.color = Color::Auto;
-        } else if word == "always" {
-            self.color = Color::Always;
-        } else if word == "never" {
-            self.color = Color::Never;
-        } else {
-            return Word::Wrong(Wrong::UnknownColor);
-        }
-        Word::Option
     }
 
     /// Decides whether reports have colours, if `--color` is missing or has the value `auto`. Reports as objects of JSON never have
@@ -498,14 +352,7 @@ impl Options {
     pub fn wrong(&self) -> Option<Wrong> {
         let kind = self.kind.unwrap_or(Kind::DateTime);
         match self.awaited {
-            Awaited::Kind
-            | Awaited::Field
-            | Awaited::Fields
-            | Awaited::Separator
-            | Awaited::Comment
-            | Awaited::MaxReports
-            | Awaited::Format
-            | Awaited::Color => Some(Wrong::MissingValue),
+            Awaited::Value(_) => Some(Wrong::MissingValue),
             Awaited::Anything | Awaited::File => {
                 if self.separator.is_some() && self.column.is_none() {
                     Some(Wrong::SeparatorWithoutField)
@@ -624,5 +471,14 @@ impl Options {
             Some(kind) if self.is_ordered => Task::Order(kind),
             _ => Task::Check(kind),
         }
+    }
+}
+
+/// Returns whether the word is the name of a file, or `-`.
+fn is_file(word: &[u8]) -> bool {
+    match word {
+        [b'-'] => true,
+        [first, ..] => *first != b'-',
+        [] => true,
     }
 }
