@@ -3,14 +3,16 @@ use Rattle.std.proofs.Common.{◌≡◌, ℕ, zero, suc, ◌+◌, ◌-◌, ◌<�
 use Rattle.std.proofs.Common.{refl, sym, ◌∙◌, ap, subst, inl, inr, arith, length-append, ⊎_elim}
 use Rattle.std.proofs.lemmas.{Bool.cases_lt, List.length-map}
 use Rattle.ixdtf_grammar.specs.declared.reason.Reason.TheVariants as reasons
-use Rattle.ixdtf_grammar.specs.declared.{part.WrongPart.WrongPart, reason.Reason.Reason}
+use Rattle.ixdtf_grammar.specs.declared.reason.Reason.{Reason}
+use Rattle.ixdtf_explanations.specs.declared.part.WrongPart.{WrongPart}
 use Rattle.ixdtf_grammar.specs.{Handlers.{Reply, first_calendar, RefusedBeside, UnhandledFault}, Widths.{HasUnhandledOutcome, UnhandledOutcome.{read_as, faulted}}, language.Languages.Found}
-use Rattle.ixdtf_grammar.specs.Parts.{IsPart, RunsBack, RunsOn, HasNoOpening, IsLastOpening, extent_of, of_number}
+use Rattle.ixdtf_explanations.specs.Parts.{IsPart, RunsBack, RunsOn, HasNoOpening, IsLastOpening, extent_of, of_number}
 use Rattle.ixdtf_grammar.specs.{Places.{HasUnhandledFaultAt, UnhandledFaultAt, UnhandledReason}, language.{Brackets.Pair, Letters.{Class, Letter, Text, byte_letter, digit, opening}}}
 use Rattle.ixdtf_grammar.specs.language.Readers.{CoreKind, Reader, Reader.{bracketed, parse_rfc3339, parse_offset, parse_identifier, parse_iana_identifier, parse_duration}}
 use Rattle.ixdtf_grammar.specs.table.{Faults.{Fault, Fault.{UnrecognizedCritical, CriticalDuplicateCalendar}}, Outcomes.{HasFault, HasFaultAt, HasReason}, Reasons.reason_of}
 use Rattle.ixdtf_grammar.specs.table.{Reasons.{Refuses as RefusesReply}, Rows.left_at}
-use Rattle.ixdtf_reading.proofs.{code.Located.left_fits, theorems.OneUnhandledOutcome.one_unhandled_outcome}
+use Rattle.ixdtf_reading.proofs.theorems.OneUnhandledOutcome.{one_unhandled_outcome}
+use Rattle.ixdtf_reading.proofs.theorems.RowPlaces.{left_fits}
 use Rattle.ixdtf_answers.specs.{Answer.{ExplainsRefusal, Gives, IsExplanation, IsOutcome, Refuses, letters, refusal_of}, Errors.RefusesAt, Word.reader_of, declared.word.Word.Word}
 
 -- ---- the position and the reason

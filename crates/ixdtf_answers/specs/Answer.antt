@@ -1,8 +1,10 @@
 -- Defines the answer to one line, without its newline.
 use Rattle.std.specs.{Prelude.{◌≡◌, ◌≢◌, ℕ, ◌+◌, Bool, ◌==◌, ◌⊎◌, List, ◌++◌, map, length, take, drop, nat_lt, Option, Some, None, MatchOption, position, codes}, Bool.MatchBool, Fmt.decimal}
 use Rattle.ixdtf_grammar.specs.declared.records.{DateRecord.DateRecord, TimeRecord.TimeRecord, UtcOffsetRecordOrZ.UtcOffsetRecordOrZ}
-use Rattle.ixdtf_grammar.specs.{Instants.instant_count, Parts.{IsPart, extent_of}, ReasonNames.reason_name}
-use Rattle.ixdtf_grammar.specs.declared.{part.WrongPart.WrongPart, reason.Reason.Reason}
+use Rattle.ixdtf_grammar.specs.{Instants.instant_count, ReasonNames.reason_name}
+use Rattle.ixdtf_explanations.specs.Parts.{IsPart, extent_of}
+use Rattle.ixdtf_grammar.specs.declared.reason.Reason.{Reason}
+use Rattle.ixdtf_explanations.specs.declared.part.WrongPart.{WrongPart}
 use Rattle.ixdtf.specs.{table.{ErrorTexts.message_of, Faults.Fault}, Widths.{HasUnhandledOutcome, UnhandledOutcome.{read_as, faulted}}}
 use Rattle.ixdtf.specs.language.{Languages.{Parsed, Found, Found.{parsed, dated, shifted, identified, named, lasting}}, Letters.{Text, byte_letter}, Readers.Reader}
 use Rattle.ixdtf_print.specs.{Canonical.canonical_text, Times.lone_time_text, YearMonths.year_month_text, MonthDays.month_day_text}

@@ -2,8 +2,11 @@
 use Rattle.std.specs.Prelude.{◌≡◌, ℕ, ◌<◌, Bool, List, [], ◌∷◌, ◌++◌, Option, Some, None, Result, IfOk, IfErr, OnOk, take, codes}
 use Rattle.ixdtf_buffers.specs.declared.{error.RunError.RunError, output.Output.Output}
 use Rattle.ixdtf_buffers.specs.{Lines.newline, Output.Puts}
-use Rattle.ixdtf_grammar.specs.declared.{error.ParseError.ParseError, located.LocatedError.LocatedError, part.WrongPart.WrongPart}
-use Rattle.ixdtf_grammar.specs.{Parts.{IsPart, extent_of}, language.Readers.Reader}
+use Rattle.ixdtf_grammar.specs.declared.error.ParseError.{ParseError}
+use Rattle.ixdtf_explanations.specs.declared.located.LocatedError.{LocatedError}
+use Rattle.ixdtf_explanations.specs.declared.part.WrongPart.{WrongPart}
+use Rattle.ixdtf_grammar.specs.language.Readers.{Reader}
+use Rattle.ixdtf_explanations.specs.Parts.{IsPart, extent_of}
 use Rattle.ixdtf.specs.{language.{Brackets.ZoneNote, Languages.Found, ZoneNames.{Zone, Zone.{Name, Offset}}}, table.Faults.fault_of}
 use Rattle.ixdtf_answers.specs.Answer.{IsAnswer, IsReaderAnswer, IsExplainAnswer, IsExplanation, IsOutcome, Gives, Refuses, letters, fields_answer_of, read_answer_of, refusal_of}
 use Rattle.ixdtf_answers.specs.{Fields.{minute_offset_text_of, zone_label_of}, Word.reader_of, Errors.RefusesAt, declared.word.Word.Word}

@@ -2,7 +2,8 @@
 use Rattle.ixdtf_answers.proofs.explanations.put_refusal.Goals as goal
 use Rattle.std.proofs.Common.{◌≡◌, ℕ, List, [], ◌∷◌, ◌++◌, length, min, codes, subst, arith, append_assoc}
 use Rattle.std.specs.Fmt.{decimal}
-use Rattle.ixdtf_grammar.specs.{Parts.{IsPart, extent_of}, ReasonNames.reason_name}
+use Rattle.ixdtf_grammar.specs.ReasonNames.{reason_name}
+use Rattle.ixdtf_explanations.specs.Parts.{IsPart, extent_of}
 use Rattle.ixdtf_buffers.specs.Lines.{newline}
 use Rattle.ixdtf_answers.proofs.PartsLemmas.{puts_same}
 

@@ -1,7 +1,7 @@
 -- Proves which value the reader returned, and which error.
 use Rattle.ixdtf_answers.proofs.explanations.read_zone_name.Goals as goal
 use Rattle.std.proofs.Common.{refl}
-use Rattle.ixdtf_grammar.specs.{table.Faults.fault_of_located}
+use Rattle.ixdtf_explanations.specs.LocatedFaults.{fault_of_located}
 
 pub returns-in-Ok : goal.returns-in-Ok
 returns-in-Ok c = record { ok = (_, rw c.from_utf8.ensures.rest at ((c.in-Ok.ensures.reads.ok _).0 refl)); err = tt }
