@@ -13,16 +13,7 @@
 #include <unistd.h>
 
 #define COUNT(array) (sizeof(array) / sizeof((array)[0]))
-#define TEXT(literal) literal, sizeof(literal) - 1
-
-/* The number of an error, the name of its variant in Rust, and its text. */
-struct error_row { uint32_t number; const char *name, *text; };
-/* The word for a reader, a text, and the expected result. In a text, \uXXXX is one code unit of 16 bits. */
-struct row { const char *reader; const char *text; size_t length; const char *answer; };
-/* A row with a handler. `answer` is the expected result, and `calls` are the annotations with which the handler must be called. */
-struct handler_row { const char *reader, *handler; const char *text; size_t length; const char *answer, *calls; };
-
-#include "test_rows.h"
+#include "test_tables.h"
 
 static unsigned long checks, failures;
 static const char *row_shown = "";
@@ -61,7 +52,7 @@ static void show(struct line *line, const char *format, ...) {
 
 static void show_fraction(struct line *line, unsigned digits, uint64_t fraction) {
     if (digits != 0) {
-        show(line, ".f%u:%llu", digits, (unsigned long long)fraction);
+        show(line, ".%09lu", (unsigned long)ixdtf_nanoseconds(fraction, (uint8_t)digits));
     }
 }
 
@@ -106,7 +97,7 @@ static void show_error(struct line *line, uint32_t error, ixdtf_text location, s
     }
     is_met[error] = 1;
     if (error == IXDTF_ABRUPT_END) {
-        show(line, "error AE %.*s", (int)location.length, location.at);
+        show(line, "error AbruptEnd %.*s", (int)location.length, location.at);
     } else {
         show(line, "error %s", error_rows[error - 1].name);
         check(location.length == 0, "location has length 0, because the error is not IXDTF_ABRUPT_END");
@@ -165,26 +156,11 @@ static int same_duration_but_error(const ixdtf_duration *a, const ixdtf_duration
         && a->time_form == b->time_form && a->has_date == b->has_date && a->is_negative == b->is_negative;
 }
 
-/* Writes the first code unit of the text of a row to `unit`. Returns how many bytes of the text stand for it: 6 for \uXXXX, and otherwise 1. `width`
- * is the number of bytes of a code unit. */
-static size_t row_unit(const char *text, size_t length, size_t width, uint16_t *unit) {
-    if (width == 2 && length >= 6 && text[0] == '\\' && text[1] == 'u') {
-        char digits[5];
-        memcpy(digits, text + 2, 4);
-        digits[4] = 0;
-        *unit = (uint16_t)strtoul(digits, NULL, 16);
-        return 6;
-    }
-    *unit = (unsigned char)text[0];
-    return 1;
-}
-
-/* Whether a row for 8-bit text is also a row for text of this width. For 16-bit text, all code units must be 1 to 126, because the other ones are
- * refused there. */
-static int is_shared(const char *text, size_t length, size_t width) {
+/* Whether all bytes are 1 to 126. */
+static int is_shared(const uint8_t *text, size_t length) {
     size_t i;
     for (i = 0; i < length; i++) {
-        if (width == 2 && (text[i] < 1 || text[i] > 126)) {
+        if (text[i] < 1 || text[i] > 126) {
             return 0;
         }
     }
@@ -220,80 +196,6 @@ static ixdtf_duration used_duration(void) {
     return it;
 }
 
-/* A line of tools/places.tsv: a text, its error, and the position of this error, which a person counted. `width` is the number of bytes of a code
- * unit. `line` is the line of the table of errors. `begin` and `end` are the part that is wrong, and `message` is the message. */
-struct place_row { const char *reader; int strict; size_t width; const char *line, *text, *error; size_t place, begin, end; const char *message; };
-
-/* Returns the first cell of a line, as a NUL-terminated string, and moves `line` to the next cell. */
-static char *cell(char **line) {
-    char *it = *line;
-    size_t length = strcspn(it, "\t\n");
-    *line = it + length + (it[length] != 0);
-    it[length] = 0;
-    return it;
-}
-
-/* Returns the word of test_rows.h for a reader of tools/places.tsv. */
-static const char *reader_word(const char *name) {
-    static const char *words[][2] = {
-        { "parse_year_month", "year-month" }, { "parse_month_day", "month-day" }, { "parse_time", "time" }, { "parse_offset", "offset" },
-        { "parse_identifier", "zone" }, { "parse_iana_identifier", "iana" }, { "parse_rfc3339", "rfc3339" },
-        { "parse_rfc9557", "rfc9557" },
-    };
-    size_t i;
-    for (i = 0; i < COUNT(words); i++) {
-        if (!strcmp(words[i][0], name)) {
-            return words[i][1];
-        }
-    }
-    return name;
-}
-
-static struct place_row place_row(char *line) {
-    struct place_row row;
-    row.reader = reader_word(cell(&line));
-    row.strict = !strcmp(cell(&line), "strict");
-    row.width = (size_t)atoi(cell(&line)) / 8;
-    row.line = cell(&line);
-    cell(&line); /* the row of this line */
-    row.text = cell(&line);
-    cell(&line); /* the prefix of the text */
-    row.error = cell(&line);
-    row.place = (size_t)atoi(cell(&line));
-    row.begin = (size_t)atoi(cell(&line));
-    row.end = (size_t)atoi(cell(&line));
-    row.message = cell(&line);
-    return row;
-}
-
-/* Writes the name of the reason of a row to `name`, which has 64 bytes. */
-static void reason_name(const struct place_row *row, char *name) {
-    static const struct { const char *begin, *word, *front; } words[] = {
-        { "", " Time", "" }, { "", " Offset", "offset_" }, { "", " MinuteOffset", "zone_offset_" }, { "group_", " date", "date_group_" },
-        { "group_", " time", "time_group_" }, { "unit_order", " date", "date_unit_order" }, { "unit_order", " time", "time_unit_order" },
-    };
-    const char *space = strchr(row->line, ' ');
-    size_t i, length = space == NULL ? strlen(row->line) : (size_t)(space - row->line);
-    if (!strcmp(row->line, "reply")) {
-        strcpy(name, !strcmp(row->error, "UnrecognizedCritical") ? "unrecognized_critical" : "critical_duplicate_calendar");
-    } else if (!strcmp(row->line, "first_dots_form")) {
-        strcpy(name, "first_name_form"); /* the two lines have one reason */
-    } else if (!strncmp(row->line, "field_", 6)) { /* field_range month_field is month_field_range */
-        sprintf(name, "%s_%.*s", space + 1, (int)length - 6, row->line + 6);
-    } else if (!strncmp(row->line, "after_field ", 12)) { /* after_field month_field is after_month_field */
-        sprintf(name, "after_%s", space + 1);
-    } else {
-        sprintf(name, "%.*s", (int)length, row->line);
-        for (i = 0; space != NULL && i < COUNT(words); i++) {
-            if (!strcmp(space, words[i].word) && !strncmp(row->line, words[i].begin, strlen(words[i].begin))) {
-                const char *rest = row->line + strlen(words[i].begin);
-                const char *last = !strncmp(rest, "value_", 6) ? rest + 6 : rest; /* group_value_range date is date_group_range */
-                sprintf(name, "%s%.*s", words[i].front, (int)(space - last), last);
-            }
-        }
-    }
-}
-
 /* The number of the reader of a row. `lists` says whether it is the variant that lists annotations. */
 static uint32_t reader_number(const char *reader, int strict, int lists) {
     static const struct { const char *reader; uint32_t crate, strict, lists, lists_strict; } numbers[] = {
@@ -305,7 +207,7 @@ static uint32_t reader_number(const char *reader, int strict, int lists) {
         { "rfc9557", IXDTF_READER_PARSE_RFC9557, IXDTF_READER_PARSE_RFC9557, IXDTF_READER_PARSE_RFC9557_WITH_ANNOTATIONS, IXDTF_READER_PARSE_RFC9557_WITH_ANNOTATIONS },
         { "offset", IXDTF_READER_PARSE_OFFSET, IXDTF_READER_PARSE_OFFSET, 0, 0 },
         { "zone", IXDTF_READER_PARSE_IDENTIFIER, IXDTF_READER_PARSE_IDENTIFIER, 0, 0 },
-        { "iana", IXDTF_READER_PARSE_IANA_IDENTIFIER, IXDTF_READER_PARSE_IANA_IDENTIFIER, 0, 0 },
+        { "zone-name", IXDTF_READER_PARSE_IANA_IDENTIFIER, IXDTF_READER_PARSE_IANA_IDENTIFIER, 0, 0 },
         { "duration", IXDTF_READER_PARSE_DURATION, IXDTF_READER_PARSE_DURATION_STRICT, 0, 0 },
     };
     size_t i;
@@ -365,7 +267,7 @@ static void check_report(const ixdtf_explanation *it, const uint8_t *text, size_
     check(out[three - 1 - i] == ' ' || out[three - 1 - i] == '\n', "no other byte has a mark");
     if (it->begin <= 48 && length <= it->begin + 24) {
         check(out[three - 1 - i] == '\n' || three - i - it->begin > 1, "there is a space for each byte before the part");
-        check(three == line + 1 + length + 1 + it->begin + i || !is_shared((const char *)text, length, 2), "the report has three lines before the hint");
+        check(three == line + 1 + length + 1 + it->begin + i || !is_shared(text, length), "the report has three lines before the hint");
         check(!memcmp(out + line + 1, text, it->begin), "the second line of the report is the text");
     }
     memset(most, 0x5a, sizeof most);
@@ -377,73 +279,6 @@ static void check_report(const ixdtf_explanation *it, const uint8_t *text, size_
     check(ixdtf_describe(it, text, length, NULL, 0, &again) == IXDTF_TOO_SHORT && again == count, "the array may be NULL if its capacity is 0");
     check(ixdtf_describe(it, text, length, most, count, &again) == IXDTF_OK && again == count && !memcmp(out, most, count), "an array of the length of the report is enough");
 }
-
-/* Texts, and the expected results of ixdtf_instant. The seconds come from `date -u +%s` of GNU, and from the limits of Date in ECMAScript. */
-static const struct { const char *text; uint32_t result; int64_t seconds; uint32_t nanoseconds; } instant_rows[] = {
-    { "1970-01-01T00:00:00Z", IXDTF_OK, 0, 0 },
-    { "2024-03-02T08:48:00.25Z", IXDTF_OK, 1709369280, 250000000 },
-    { "2024-03-02T08:48:00.25-05:00[America/New_York][u-ca=hebrew]", IXDTF_OK, 1709387280, 250000000 },
-    { "1969-12-31T23:59:59.5Z", IXDTF_OK, -1, 500000000 },
-    { "2016-12-31T23:59:60.75Z", IXDTF_OK, 1483228799, 750000000 },
-    { "1900-03-01T00:00Z", IXDTF_OK, -2203891200, 0 },
-    { "2000-02-29T12:30:15+05:30", IXDTF_OK, 951807615, 0 },
-    { "0001-01-01T00:00:00Z", IXDTF_OK, -62135596800, 0 },
-    { "9999-12-31T23:59:59.999999999999Z", IXDTF_OK, 253402300799, 999999999 },
-    { "-271821-04-20T00:00Z", IXDTF_OK, -8640000000000, 0 },
-    { "+275760-09-13T00:00Z", IXDTF_OK, 8640000000000, 0 },
-    { "1970-01-01T00:00:00.1-00:00:00.9", IXDTF_OK, 1, 0 },
-    { "1970-01-01T00:00:00.1+00:00:00.2", IXDTF_OK, -1, 900000000 },
-    { "2024-03-02", IXDTF_NO_INSTANT, 0, 0 },
-    { "2024-03-02T08:48[UTC]", IXDTF_NO_INSTANT, 0, 0 },
-};
-
-/* Texts, and the canonical texts of what the readers write for them. A person wrote the canonical texts by the rules of docs/GRAMMAR.md. */
-struct printed_row { const char *text, *canonical; };
-static const struct printed_row printed_durations[] = {
-    { "+p1y0m03dt04,50m", "P1Y3DT4.50M" }, { "-P0Y", "-P0D" }, { "P0WT0H0S", "P0DT0S" }, { "PT0H", "PT0H" }, { "PT0H0M", "PT0M" },
-    { "P1Y2Y", "P2Y" }, { "-P1Y2M3W4DT5H6M7.890S", "-P1Y2M3W4DT5H6M7.890S" }, { "PT0.000000000000000001H", "PT0.000000000000000001H" },
-    { "P00018446744073709551615D", "P18446744073709551615D" }, { "pt18446744073709551615h0m0,0s", "PT18446744073709551615H0.0S" },
-    { "P4294967295Y4294967295M4294967295W", "P4294967295Y4294967295M4294967295W" }, { "PT1.1234567890123456789S", "PT1.1234567890123456780S" },
-};
-static const struct printed_row printed_offsets[] = {
-    { "+05", "+05:00" }, { "-0530", "-05:30" }, { "-00:00", "-00:00" }, { "+053010", "+05:30:10" }, { "-23:59:59,50", "-23:59:59.50" },
-    { "+00:00:00.1234567890123456789", "+00:00:00.1234567890123456780" },
-};
-static const struct printed_row printed_zones[] = {
-    { "Europe/Berlin", "Europe/Berlin" }, { "etc/utc", "etc/utc" }, { "+05", "+05:00" }, { "-0000", "-00:00" }, { "../_a-b+1", "../_a-b+1" },
-};
-static const struct printed_row printed_times[] = {
-    { "T1214", "12:14:00" }, { "084800,25z", "08:48:00.25Z" }, { "12+01[!+01][x=y][u-ca=hebrew]", "12:00:00+01:00[!+01:00][u-ca=hebrew]" },
-};
-static const struct printed_row printed_year_months[] = {
-    { "202011[+01]", "2020-11[+01:00]" }, { "+00202011", "2020-11" }, { "-000001-12[u-ca=a]", "-000001-12[u-ca=a]" },
-};
-static const struct printed_row printed_month_days[] = {
-    { "1107[+01]", "11-07[+01:00]" }, { "--0229", "02-29" }, { "--01-00[u-ca=a]", "01-00[u-ca=a]" },
-};
-static const struct printed_row printed_records[] = {
-    { "20240302", "2024-03-02" },
-    { "+002024-03-02", "2024-03-02" },
-    { "-000001-12-31", "-000001-12-31" },
-    { "+010000-01-01", "+010000-01-01" },
-    { "0000-01-01", "0000-01-01" },
-    { "-271821-04-20", "-271821-04-20" },
-    { "2024-02-29 08", "2024-02-29T08:00:00" },
-    { "20240302t084800,250", "2024-03-02T08:48:00.250" },
-    { "2024-03-02T23:59:60.000000000000000001", "2024-03-02T23:59:60.000000000000000001" },
-    { "2024-03-02T00:00:00.00000000000000000123", "2024-03-02T00:00:00.00000000000000000100" },
-    { "2024-03-02T08:48z", "2024-03-02T08:48:00Z" },
-    { "2024-03-02T08:48-05", "2024-03-02T08:48:00-05:00" },
-    { "2024-03-02T08:48-00:00", "2024-03-02T08:48:00-00:00" },
-    { "2024-03-02T084800+053010", "2024-03-02T08:48:00+05:30:10" },
-    { "2024-03-02T08:48:00+05:30:10,50", "2024-03-02T08:48:00+05:30:10.50" },
-    { "2024-03-02[Europe/Paris]", "2024-03-02[Europe/Paris]" },
-    { "2024-03-02[!etc/utc][a=b]", "2024-03-02[!etc/utc]" },
-    { "2024-03-02[+0530]", "2024-03-02[+05:30]" },
-    { "2024-03-02[!-00]", "2024-03-02[!-00:00]" },
-    { "2024-03-02[!u-ca=hebrew]", "2024-03-02[u-ca=hebrew]" },
-    { "-123456-07-08T09:10:11.1213-14:15:16.17181[!Abc/d][u-ca=ef-g]", "-123456-07-08T09:10:11.1213-14:15:16.17181[!Abc/d][u-ca=ef-g]" },
-};
 
 /* What a printer prints. */
 enum printer { OF_RECORD, OF_DURATION, OF_OFFSET, OF_ZONE, OF_TIME, OF_YEAR_MONTH, OF_MONTH_DAY };
@@ -624,30 +459,16 @@ static void test_texts(void) {
 #endif
 }
 
-/* Tests each line of tools/places.tsv, for the width of its code units. A line for 8-bit text whose code units are all 1 to 126 is also tested as
- * 16-bit text. */
-static void test_places(const char *path) {
-    char line[512];
-    unsigned long rows = 0;
-    FILE *lines = fopen(path, "r");
-    if (lines == NULL || fgets(line, sizeof line, lines) == NULL) {
-        printf("expected the file %s, which is tools/places.tsv\n", path);
-        exit(2);
+/* Tests a row of a table for each width that it is about. */
+static void test_row(const struct row *row) {
+    row_shown = row->text;
+    if (strcmp(row->bits, "16") != 0) {
+        narrow_test_row(row);
     }
-    while (fgets(line, sizeof line, lines) != NULL) {
-        struct place_row row = place_row(line);
-        row_shown = row.text;
-        if (row.width == 1) {
-            narrow_test_place(&row);
-        }
-        if (row.width == 2 || is_shared(row.text, strlen(row.text), 2)) {
-            wide_test_place(&row);
-        }
-        rows++;
+    if (strcmp(row->bits, "8") != 0) {
+        wide_test_row(row);
     }
-    fclose(lines);
     row_shown = "";
-    check(rows >= 300, "tools/places.tsv has at least 300 rows");
 }
 
 /* Tests the number and the name of each error. The list here repeats the constants of the header, so that a changed constant is found. */
@@ -903,13 +724,14 @@ static void test_reports(void) {
         "IXDTF_NO_READER for a number that no reader has, and nothing is written");
 }
 
-/* The argument of the program is the path of tools/places.tsv. */
+/* The argument of the program is the path of the folder tests. */
 int main(int count, char **arguments) {
     if (count != 2) {
-        puts("expected one argument: the path of tools/places.tsv");
+        puts("expected one argument: the path of the folder tests");
         return 2;
     }
     make_room();
+    read_errors(arguments[1]);
     test_numbers();
     test_reasons();
     test_reports();
@@ -922,7 +744,9 @@ int main(int count, char **arguments) {
     wide_test_all();
     narrow_test_printing();
     wide_test_printing();
-    test_places(arguments[1]);
+    check(each_row(arguments[1], "accepted.tsv", test_row) >= 500, "accepted.tsv has at least 500 rows");
+    check(each_row(arguments[1], "refused.tsv", test_row) >= 1000, "refused.tsv has at least 1000 rows");
+    check(each_row(arguments[1], "replies.tsv", test_row) >= 200, "replies.tsv has at least 200 rows");
     test_last_fractions();
     test_met();
     printf("%lu checks, %lu failed\n", checks, failures);

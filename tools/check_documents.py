@@ -10,7 +10,7 @@ must be those with the contracts of its tables. Each line of a table must begin 
 
 (b) Examples. The lines of docs/FAULTS.md must be those of the model places.py: their names, what can follow, and their errors. Each
 example is a text with the position of its error (`place` in this file). It must have this error at this position in the model, and in
-places.tsv, in which a person counted the positions. The errors must have the texts that they have in the code and in the model, and the
+tests/refused.tsv, in which a person counted the positions. The errors must have the texts that they have in the code and in the model, and the
 readers that they have in the model. Each reason must have one row with its messages, and these must be the messages that wording.rt has.
 The hints must be those that hint.rt and the files in hint/ have, and each example of a hint must have this hint in the model.
 
@@ -752,14 +752,14 @@ def is_line_of(said: Said, name: str) -> bool:
 
 
 def in_the_list(said: Said) -> list[places.Example]:
-    """The entries of places.tsv with the same text, error and place, for this line and this reader."""
+    """The examples of tests/refused.tsv with the same text, error and place, for this line and this reader."""
     return [it for it in places.examples() if (tuple(it.units), it.wide, it.strict) == (said.units, said.wide, said.strict)
             and said.reader in (None, it.reader) and is_line_of(said, it.line)
             and it.place == said.fault.place and said.fault.error in (None, it.error)]
 
 
 def is_in_the_model(said: Said, listed: places.Example) -> bool:
-    """Whether the model has the error at the place: as a row of the line that places.tsv gives, or as the error of an annotation."""
+    """Whether the model has the error at the place: as a row of the line that the example gives, or as the error of an annotation."""
     reader, text = places.READERS[said.strict][listed.reader], places.letters_of(said.units, said.wide)
     if listed.line == 'reply':
         refused = places.refused_reply(reader, text, said.fault.place, places.each_replies_for_itself)
@@ -803,7 +803,7 @@ def findings_in_faults(document: Document) -> Iterator[Finding]:
             for said in said_in(row):
                 text, listed = ''.join(map(chr, said.units)), in_the_list(said)
                 if not listed:
-                    yield Finding(document.path, number, f'places.tsv has no {said.fault} for `{text}`')
+                    yield Finding(document.path, number, f'tests/refused.tsv has no {said.fault} for `{text}`')
                 if not all(is_in_the_model(said, it) for it in listed):
                     yield Finding(document.path, number, f'the model has no {said.fault} for `{text}`')
         except (ValueError, KeyError, TypeError) as why:

@@ -4,13 +4,12 @@
 A *row* is a text, a reader and a result: the reader accepts the text, or it returns an error. A row can also have the position of the
 error, which is called its *place* in this file. The tool reads rows from these sources:
 
-    tests      the tables that the tests of crates/ixdtf_tests walk, also those with handlers
+    tables     the tables of the folder tests
     examples   the examples of `*_located` readers in the doc comments of crates/*/src
     proofs     the tables of computed examples in crates/ixdtf_tests/proofs
-    C          the rows of c/test_rows.h
 
-It compares each row with the model tools/places.py. If tools/places.tsv has the text, it also compares the row with this list, in which a
-person counted the places. No row may be copied from the output of the library itself.
+It compares each row with the model tools/places.py. If tests/refused.tsv has the text of an example, it also compares the example with this table,
+in which a person counted most of the places. No row may be copied from the output of the library itself.
 
 The tool also checks the names of the mutations, crates/*/must-fail/FILE.FUNCTION.WHAT.edit. FILE must be the file, without its ending, and
 FUNCTION the function that contains the text after `old:`. The type of the function may come before it. For a mutation of a definition,
@@ -30,14 +29,15 @@ from typing import Callable, Iterator, NamedTuple, Optional, Union
 
 TOOLS = os.path.dirname(os.path.abspath(__file__))
 sys.path.insert(0, TOOLS)
+import model_rows
 import places
 from check_documents import FUNCTION, IMPL
-from places import Annotation, Error, Fault, Handler
+from places import Error, Fault, Handler
 
 ROOT = os.path.dirname(TOOLS)
 
 # the least number of rows of each source
-LEAST = {'tests': 1180, 'examples': 20, 'proofs': 2500, 'C': 700}
+LEAST = {'tables': 5000, 'examples': 20, 'proofs': 2500}
 
 
 # ---------------------------------------------------------------------------------------------------------------------------------
@@ -69,18 +69,17 @@ def said(error: Optional[Error], place: Optional[int]) -> str:
 
 
 @cache
-def counted_by_hand() -> dict[tuple, list[places.Example]]:
-    """The examples of places.tsv, for each reader, profile, width and text."""
-    found = {}
-    for it in places.examples():
-        found.setdefault((it.reader, it.strict, it.wide, tuple(it.units)), []).append(it)
-    return found
+def counted_by_hand() -> dict[tuple, tuple[str, str]]:
+    """The errors and places of tests/refused.tsv, for each reader, profile, width and text."""
+    cases = model_rows.tables.cases('refused.tsv')
+    return {(model_rows.READERS[it.reader], it.is_strict, it.width == 16, it.units): (it.row['error'], it.row['at']) for it in cases}
 
 
-def listed(row: Row) -> list[tuple[Error, int]]:
-    """What places.tsv has for the text, without a handler. Also with a handler that replies None, if places.tsv has no refused reply."""
-    found = counted_by_hand().get((row.reader, row.strict, row.wide, row.units), [])
-    return [(it.error, it.place) for it in found if row.handler is None or row.handler is GIVES_NONE and it.line != 'reply']
+def listed(row: Row) -> Iterator[tuple[Error, Optional[int]]]:
+    """What tests/refused.tsv has for the text, without a handler. Also with a handler that replies None, if no reply is refused."""
+    error, place = counted_by_hand().get((row.reader, row.strict, row.wide, row.units), ('', ''))
+    if error and (row.handler is None or error not in ('UnrecognizedCritical', 'CriticalDuplicateCalendar')):
+        yield Error(*error.split(' ')), int(place) if place else None
 
 
 def modelled(row: Row) -> tuple[Optional[Error], Optional[int]]:
@@ -92,39 +91,16 @@ def modelled(row: Row) -> tuple[Optional[Error], Optional[int]]:
 
 def findings(row: Row) -> Iterator[str]:
     """The differences of the row from the list and from the model."""
-    for source, (error, place) in [('places.tsv', it) for it in listed(row)] + [('the model', modelled(row))]:
-        if error != row.error or row.place is not None and place != row.place:
+    for source, (error, place) in [('refused.tsv', it) for it in listed(row)] + [('the model', modelled(row))]:
+        if error != row.error or None not in (row.place, place) and place != row.place:
             yield f'{row} is {said(row.error, row.place)}; {source} has {said(error, place)}'
 
 
-# ---------------------------------------------------------------------------------------------------------------------------------
-# Handlers
-
-def answers_another() -> Handler:
-    """A handler. Its first reply is the calendar `a`, its second the calendar `b` with the flag of the annotation, and its third None.
-    After these, it replies the annotation."""
-    calls = []
-
-    def reply(pair: Annotation) -> Optional[Annotation]:
-        calls.append(pair)
-        replies = [Annotation(False, 'u-ca', 'a'), Annotation(pair.critical, 'u-ca', 'b'), None]
-        return replies[len(calls) - 1] if len(calls) <= len(replies) else pair
-    return reply
-
-
-def always(reply: Callable[[Annotation], Optional[Annotation]]) -> Callable[[], Handler]:
-    """A function that makes a handler without a state."""
-    return lambda: reply
-
-
-GIVES_BACK = always(lambda pair: pair)
-GIVES_NONE = always(lambda pair: None)
-MAKES_CRITICAL = always(lambda pair: pair._replace(critical=True))
-TURNS_CRITICAL = always(lambda pair: pair._replace(critical=not pair.critical))
-# by their names in the tests of crates/ixdtf_tests, and in the tests for C
-HANDLERS = {'HandsBack': GIVES_BACK, 'RepliesNone': GIVES_NONE, 'MakesCritical': MAKES_CRITICAL, 'TurnsCritical': TURNS_CRITICAL,
-            'RepliesAnother': answers_another}
-C_HANDLERS = {'id': GIVES_BACK, 'none': GIVES_NONE, 'crit': MAKES_CRITICAL, 'flip': TURNS_CRITICAL, 'foreign': answers_another}
+def findings_in_tables() -> tuple[list[str], int]:
+    """The differences of the tables of the folder tests from the model, and the number of their cases."""
+    cases = model_rows.tables.cases('accepted.tsv', 'refused.tsv', 'replies.tsv')
+    found = [f'{case} has {column} {wanted}; the model has {got}' for case in cases for column, wanted, got in model_rows.differences(case)]
+    return found, len(cases)
 
 
 # ---------------------------------------------------------------------------------------------------------------------------------
@@ -216,99 +192,6 @@ def unescaped(literal: str) -> Union[str, bytes]:
 
 
 # ---------------------------------------------------------------------------------------------------------------------------------
-# Tables of tests
-
-# the readers of the model, by their names in the tests
-READERS = {'Parse': 'parse', 'YearMonth': 'parse_year_month', 'MonthDay': 'parse_month_day', 'Time': 'parse_time',
-           'Rfc3339': 'parse_rfc3339', 'Rfc9557': 'parse_rfc9557', 'Offset': 'parse_offset', 'Identifier': 'parse_identifier', 'IanaIdentifier': 'parse_iana_identifier', 'Duration': 'duration'}
-CONSTANT = re.compile(r'^\s*(?:pub(?:\(\w+\))? )?(?:const|static) (\w+):[^=]*=\s', re.M)
-CALL = re.compile(r'(?<!fn )\bcheck_(refused|no_letter|scanned|refused_in_both|refused_replies|no_letter_replies|heeded)\(')
-NO_LETTER = Error('NonAsciiCodePoint')
-
-
-class TestFile:
-    """A file of tests: its constants, those of its parent module, and the tables that its tests walk."""
-
-    def __init__(self, path: str, source: str, above: Optional['TestFile'] = None):
-        self.path, self.source, self.above = path, source, above
-
-    @cached_property
-    def constants(self) -> dict[str, int]:
-        """The index at which the value of each constant begins."""
-        return {it[1]: it.end() for it in CONSTANT.finditer(self.source)}
-
-    def resolved(self, value: Value) -> Value:
-        """The value. If it is the name of a constant, the value of the constant."""
-        if not isinstance(value, Named) or value.arguments or value.fields:
-            return value
-        if value.name in self.constants:
-            return self.resolved(Values(self.source, self.constants[value.name]).value())
-        return self.above.resolved(value) if self.above else value
-
-    def rows(self) -> Iterator[Row]:
-        """The rows of all tables that a test names."""
-        for call in CALL.finditer(self.source):
-            arguments = Values(self.source, call.end() - 1).value()
-            values = [self.resolved(it) for it in arguments[1:]]
-            if isinstance(values[-1], list) and READERS.get(getattr(values[0], 'name', 'Parse')):
-                yield from getattr(self, call[1])(*values)
-
-    def row(self, reader: Value, text: str, error: Optional[Error], place: Optional[int], **others) -> Row:
-        """A row with these parts. The text has 8-bit code units, unless `others` says something different."""
-        units = tuple(map(ord, text)) if others.get('wide') else tuple(text.encode())
-        return Row(self.path, READERS[reader.name], False, False, units, error, place)._replace(**others)
-
-    def both(self, reader: Value, text: str, fault: tuple[Optional[Error], Optional[int]], wide_fault: tuple[Optional[Error], Optional[int]],
-             **others) -> Iterator[Row]:
-        """Two rows of a text: one with 8-bit code units, and one with a 16-bit code unit for each character."""
-        yield self.row(reader, text, *fault, **others)
-        yield self.row(reader, text, *wide_fault, wide=True, **others)
-
-    def error(self, value: Value) -> Error:
-        """The error that a value stands for."""
-        named = self.resolved(value)
-        return Error(named.name, named.fields.get('location'))
-
-    def refused(self, reader: Value, table: list) -> Iterator[Row]:
-        """Texts that have the same error in 8-bit and in 16-bit text."""
-        for text, error, place in map(self.resolved, table):
-            fault = self.error(error), place
-            yield from self.both(reader, text, fault, fault)
-
-    def no_letter(self, reader: Value, table: list) -> Iterator[Row]:
-        """Texts that are refused at a bad code unit. In 16-bit text, the bad code unit is the reason."""
-        for text, error, place in map(self.resolved, table):
-            yield from self.both(reader, text, (self.error(error), place), (NO_LETTER, place))
-
-    def scanned(self, table: list) -> Iterator[Row]:
-        """Texts that are refused at one place as 8-bit text, and for a bad code unit at another place as 16-bit text."""
-        for reader, text, error, place, bad in map(self.resolved, table):
-            yield from self.both(reader, text, (self.error(error), place), (NO_LETTER, bad))
-
-    def refused_in_both(self, reader: Value, table: list) -> Iterator[Row]:
-        """Texts with their errors under each of the two profiles."""
-        for text, error, strictly in map(self.resolved, table):
-            yield self.row(reader, text, self.error(error), None)
-            yield self.row(reader, text, self.error(strictly), None, strict=True)
-
-    def refused_replies(self, table: list) -> Iterator[Row]:
-        """Texts that have the same error in 8-bit and in 16-bit text, with a handler."""
-        for (form, kind, text, _), error, place in map(self.resolved, table):
-            fault = self.error(error), place
-            yield from self.both(form, text, fault, fault, handler=HANDLERS[kind.name])
-
-    def no_letter_replies(self, table: list) -> Iterator[Row]:
-        """Texts that are refused at a bad code unit, with a handler."""
-        for (form, kind, text, _), error, place in map(self.resolved, table):
-            yield from self.both(form, text, (self.error(error), place), (NO_LETTER, place), handler=HANDLERS[kind.name])
-
-    def heeded(self, table: list) -> Iterator[Row]:
-        """Texts that are accepted, with a handler."""
-        for (form, kind, text, _), *_ in map(self.resolved, table):
-            yield from self.both(form, text, (None, None), (None, None), handler=HANDLERS[kind.name])
-
-
-# ---------------------------------------------------------------------------------------------------------------------------------
 # Examples of doc comments
 
 PARSERS = {'IxdtfParser': '', 'TimeZoneParser': '', 'IsoDurationParser': 'duration'}
@@ -332,31 +215,6 @@ def rows_of_examples(path: str, source: str) -> Iterator[Row]:
         for text, named, place in rows:
             error = Error(named.name, named.fields.get('location'))
             yield Row(path, PARSERS[parser] or method, False, False, tuple(text.encode()), error, place)
-
-
-# ---------------------------------------------------------------------------------------------------------------------------------
-# Rows for C
-
-C_TABLE = re.compile(r'^static const struct \w+ (\w+)\[\] = \{\n(.*?)^\};', re.M | re.S)
-C_ROW = re.compile(r'\{ "(?P<word>[\w-]+)", (?:"(?P<handler>\w+)", )?TEXT\("(?P<text>(?:[^"\\]|\\.)*)"\), '
-                   r'"(?:ok|error (?:AE )?(?P<error>\S+) at (?P<place>\d+))')
-C_ESCAPE = re.compile(r'\\([0-7]{1,3}|.)')
-
-
-def c_text(literal: str) -> str:
-    """The bytes of a string literal in C, each as a character."""
-    return C_ESCAPE.sub(lambda it: chr(int(it[1], 8)) if it[1].isdigit() else LETTERS[it[1]], literal)
-
-
-def rows_for_c(path: str, source: str) -> Iterator[Row]:
-    """The rows in the tables for C."""
-    for table, body in C_TABLE.findall(source):
-        for it in C_ROW.finditer(body) if table != 'error_rows' else ():
-            text, wide = c_text(it['text']), table == 'wide_rows'
-            units = tuple(places.units_of(text) if wide else map(ord, text))
-            error = it['error'] and (Error('AbruptEnd', it['error']) if 'error AE ' in it[0] else Error(it['error']))
-            yield Row(path, places.WORDS[it['word']], table == 'strict_rows', wide, units, error, it['place'] and int(it['place']),
-                      it['handler'] and C_HANDLERS[it['handler']])
 
 
 # ---------------------------------------------------------------------------------------------------------------------------------
@@ -535,9 +393,9 @@ def rows_of_outcome(path: str, reader: str, strict: bool, text: list, outcome: M
     units = tuple(it if isinstance(it, int) else BAD_UNIT for it in text)
     is_bad = BAD in text or Term(BAD) in text
     if not is_bad:
-        yield Row(path, reader, strict, False, units, error, place, GIVES_NONE)
+        yield Row(path, reader, strict, False, units, error, place, model_rows.DROP)
     if is_bad or all(1 <= it <= 126 for it in units):
-        yield Row(path, reader, strict, True, units, error, place, GIVES_NONE)
+        yield Row(path, reader, strict, True, units, error, place, model_rows.DROP)
 
 
 def fault_of(text: list, outcome: Meaning) -> tuple[Optional[Error], Optional[int]]:
@@ -722,13 +580,6 @@ def files(folder: str, ending: str) -> list[str]:
     return sorted(found)
 
 
-def rows_of_tests() -> Iterator[Row]:
-    """The rows of the tests."""
-    above = TestFile('crates/ixdtf_tests/src/tests.rt', read('crates/ixdtf_tests/src/tests.rt'))
-    for path in files('crates/ixdtf_tests/src/tests', '.rt'):
-        yield from TestFile(path, read(path), above).rows()
-
-
 def rows_of_proofs() -> Iterator[Row]:
     """The rows of the computed examples."""
     folder = 'crates/ixdtf_tests/proofs'
@@ -742,29 +593,26 @@ def rows_of_proofs() -> Iterator[Row]:
 
 
 def all_rows() -> dict[str, list[Row]]:
-    """The rows of each source."""
-    c_path = 'c/test_rows.h'
+    """The rows of the examples and of the proofs."""
     return {
-        'tests': list(rows_of_tests()),
         'examples': [row for path in files('crates', '.rt') if '/src/' in path for row in rows_of_examples(path, read(path))],
         'proofs': list(rows_of_proofs()),
-        'C': list(rows_for_c(c_path, read(c_path))),
     }
 
 
 def main() -> int:
     """Compares the rows, and prints the findings. Returns the exit status."""
+    found, cases = findings_in_tables()
     rows = all_rows()
-    found = [it for of_source in rows.values() for row in of_source for it in findings(row)]
-    found += [f'{source}: {len(rows[source])} rows were read, and at least {least} were expected' for source, least in LEAST.items()
-              if len(rows[source]) < least]
+    found += [it for of_source in rows.values() for row in of_source for it in findings(row)]
+    counts = {'tables': cases, **{source: len(of_source) for source, of_source in rows.items()}}
+    found += [f'{source}: {counts[source]} rows were read, and at least {least} were expected' for source, least in LEAST.items() if counts[source] < least]
     of_edits, edits = findings_in_edits()
     of_readers, functions = findings_in_readers()
     found += of_edits + of_readers
     for it in found:
         print(it)
-    print(f'rows: {", ".join(f"{len(of_source)} of {source}" for source, of_source in rows.items())}; {edits} edits; '
-          f'{functions} functions of readers; {len(found)} findings')
+    print(f'rows: {", ".join(f"{count} of {source}" for source, count in counts.items())}; {edits} edits; {functions} functions of readers; {len(found)} findings')
     return 1 if found else 0
 
 

@@ -4,7 +4,7 @@ texts with the model places.py.
 
 The tool makes COUNT texts of 8-bit code units, and COUNT texts of 16-bit code units. If you do not give COUNT, it is 100000. If you do
 not give SEED, it is 1. The texts are for all readers, and for both profiles if the profile changes what the reader accepts. Each text is
-the text of a row of places.tsv, or a date for which the rule of leap years matters. Most of the texts then get one to three changes. The
+the text of a row of tests/refused.tsv, or a date for which the rule of leap years matters. Most of the texts then get one to three changes. The
 tool builds the example `messages` of `rust/ixdtf` with cargo, and this example reads the texts without an annotation handler. With --jobs,
 the tool uses N processes. The texts and the output do not depend on N.
 
@@ -90,7 +90,7 @@ WITH_DATES = ('parse', 'parse_rfc3339', 'parse_rfc9557')
 
 @cache
 def rows(wide: bool) -> dict[str, list[Units]]:
-    """The texts of places.tsv and the dates for each reader. The texts for 8-bit text are also texts of 16-bit code units."""
+    """The texts of tests/refused.tsv and the dates for each reader. The texts for 8-bit text are also texts of 16-bit code units."""
     found = {name: [it.units for it in places.examples() if it.reader == name and (wide or not it.wide)] for name in places.READERS[False]}
     for name in WITH_DATES:
         found[name] += [list(it.encode()) for it in NO_LEAP_DAYS]

@@ -758,6 +758,25 @@ class Reason(NamedTuple):
     end: int
     follow: tuple[str, ...] = ()
 
+    @property
+    def name(self) -> str:
+        """The name of the reason in the library."""
+        return reason_name(self.line)
+
+
+# the beginning of the name of a reason, for the part of the text to which its line belongs
+FRONTS = {'': '', 'Time': '', 'Offset': 'offset_', 'MinuteOffset': 'zone_offset_'}
+# the names of lines that are not the names of their reasons. `first_dots_form` and `first_name_form` have the same reason.
+OTHER_NAMES = {'first_dots_form': 'first_name_form', 'group_value_range': 'group_range', 'field_digits': 'digits', 'field_range': 'range'}
+
+
+def reason_name(line: str) -> str:
+    """The name of the reason of a line, or of the error of a refused reply."""
+    name, _, part = re.sub('(?<=[a-z])(?=[A-Z])', '_', line).lower().partition(' ')
+    if name == 'after_field':
+        return f'after_{part}'
+    return FRONTS.get(line.partition(' ')[2], f'{part}_') + OTHER_NAMES.get(name, name)
+
 
 class Row(NamedTuple):
     """A row that fits a text: the name of its line, which row of the line it is, its error, the length of its front, and its reason."""
@@ -1044,17 +1063,17 @@ def report(name: str, found: Refusal, units: Sequence[int], wide: bool = False, 
 
 
 # ---------------------------------------------------------------------------------------------------------------------------------
-# The examples in places.tsv.
+# The examples in tests/refused.tsv.
 
 class Example(NamedTuple):
-    """A line of places.tsv."""
+    """A text of tests/refused.tsv whose row has the reason and the message. `line` is the line of the fault table, or `reply` if a reply to an
+    annotation is refused. `row` is the row of this line, or `refused`."""
     reader: str
     strict: bool
     wide: bool
     line: str
     row: str
     units: list[int]
-    front: list[int]
     error: Error
     place: int
     begin: int
@@ -1062,19 +1081,41 @@ class Example(NamedTuple):
     reason: str
 
 
-def units_of(spelled: str) -> list[int]:
-    """The code units of a text in which `\\uXXXX` is one code unit."""
-    return [int(it[2:], 16) if len(it) > 1 else ord(it) for it in re.findall(r'\\u[0-9a-f]{4}|.', spelled)]
+REPLIES = ('UnrecognizedCritical', 'CriticalDuplicateCalendar')
+
+
+@cache
+def lines_by_reason() -> dict[str, str]:
+    """The name of the line of each reason. Two lines have the reason `first_name_form`."""
+    return {Reason(it.name, '', 0, 0).name: it.name for reader in READERS[False].values() for it in reader.lines if it.name != 'first_dots_form'}
+
+
+def way_of(error: Error, place: int, begin: int, end: int) -> str:
+    """The row of a line, by the part of the text that is wrong."""
+    if error.variant in REPLIES:
+        return REFUSED
+    if error.variant == 'NonAsciiCodePoint':
+        return AT_BAD
+    return AT_END if begin == end else AT_OTHER if begin == place else WHOLE
+
+
+def example_of(row, case) -> Example:
+    """The example of a row of the table, for one of its cases."""
+    error, place, (begin, end) = Error(*row['error'].split(' ')), int(row['at']), map(int, row['part'].split('..'))
+    text = letters_of(case.units, case.width == 16)
+    line = 'reply' if error.variant in REPLIES else lines_by_reason()[row['reason']]
+    if line == 'first_name_form' and re.match(DOTTED_BRACKET, text[begin:]):
+        line = 'first_dots_form'
+    return Example({**WORDS, **STRICT_WORDS}[case.word], case.is_strict, case.width == 16, line, way_of(error, place, begin, end), list(case.units),
+                   error, place, begin, end, row['message'])
 
 
 @cache
 def examples() -> list[Example]:
-    """The lines of places.tsv. Each has a text, a place that a person counted, and a reason that was found by reading the text."""
-    with open(os.path.join(os.path.dirname(os.path.abspath(__file__)), 'places.tsv'), encoding='ascii') as lines:
-        cells = [it.rstrip('\n').split('\t') for it in lines][1:]
-    return [Example(reader, profile == 'strict', bits == '16', line, row, units_of(text), units_of(front),
-                    Error(*error.split(' ')), int(place), int(begin), int(end), reason)
-            for reader, profile, bits, line, row, text, front, error, place, begin, end, reason in cells]
+    """One example for each row of the table with a reason and a message. A person counted the place, and wrote the message by reading the text."""
+    sys.path.insert(1, os.path.join(os.path.dirname(os.path.dirname(os.path.abspath(__file__))), 'tests'))
+    import tables
+    return [example_of(row, next(tables.cases_of(row))) for row in tables.rows('refused.tsv') if row['part'] and row['reason'] and row['message']]
 
 
 # ---------------------------------------------------------------------------------------------------------------------------------
@@ -1099,24 +1140,10 @@ REASONS, REPORTS = '--reasons', '--reports'
 EXPLAIN = b'explain '
 
 
-# the beginning of the name of a reason, for the part of the text to which its line belongs
-FRONTS = {'': '', 'Time': '', 'Offset': 'offset_', 'MinuteOffset': 'zone_offset_'}
-# the names of lines that are not the names of their reasons. `first_dots_form` and `first_name_form` have the same reason.
-OTHER_NAMES = {'first_dots_form': 'first_name_form', 'group_value_range': 'group_range', 'field_digits': 'digits', 'field_range': 'range'}
-
-
-def reason_name(line: str) -> str:
-    """The name of the reason of a line, or of the error of a refused reply."""
-    name, _, part = re.sub('(?<=[a-z])(?=[A-Z])', '_', line).lower().partition(' ')
-    if name == 'after_field':
-        return f'after_{part}'
-    return FRONTS.get(line.partition(' ')[2], f'{part}_') + OTHER_NAMES.get(name, name)
-
-
 def explanation(found: Refusal) -> str:
     """The answer to `explain` for a text that a reader refuses."""
     reason = found.reason
-    return f'error at={found.fault.place} part={reason.begin}..{reason.end} reason={reason_name(reason.line)}'
+    return f'error at={found.fault.place} part={reason.begin}..{reason.end} reason={reason.name}'
 
 
 def answer(protocol_line: bytes, wide: bool = False, says: Optional[str] = None) -> str:

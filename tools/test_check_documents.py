@@ -376,7 +376,7 @@ class Repository(unittest.TestCase):
         self.assertGreater(sum(len(list(check.said_in(row))) for row in rows), 100)
 
     def test_another_place(self):
-        self.assertEqual(self.faults('`20-06-05` at 2', '`20-06-05` at 3')[0], 'places.tsv has no Invalid chracter while parsing year '
+        self.assertEqual(self.faults('`20-06-05` at 2', '`20-06-05` at 3')[0], 'tests/refused.tsv has no Invalid chracter while parsing year '
                          'value. at 3 for `20-06-05`')
         self.assertTrue(self.faults('`[!c=d]junk` | `UnrecognizedCritical` at 16', '`[!c=d]junk` | `UnrecognizedCritical` at 15'))
 

@@ -1,13 +1,18 @@
 #!/usr/bin/env python3
 """Tests of check_rows.py: it reads the rows of each source, and finds the wrong ones."""
 import os
+import re
+import subprocess
 import sys
+import tempfile
 import unittest
 
 TOOLS = os.path.dirname(os.path.abspath(__file__))
 sys.path.insert(0, TOOLS)
 import check_rows as check
-from check_rows import Proofs, Row, TestFile, Values
+import model_rows
+import places
+from check_rows import Proofs, Row, Values
 from places import Annotation, Error
 
 DIGIT = Error('AbruptEnd', 'digit')
@@ -35,24 +40,24 @@ class Findings(unittest.TestCase):
             self.assertTrue(list(check.findings(it)), it)
 
     def test_both_sources(self):
-        # places.tsv has this text, and so has the model.
+        # tests/refused.tsv has this text, and so has the model.
         self.assertEqual(list(check.findings(row('2020-13-01', MONTH, 8))), [
-            "file: parse of '2020-13-01' is InvalidMonthRange at 8; places.tsv has InvalidMonthRange at 7",
+            "file: parse of '2020-13-01' is InvalidMonthRange at 8; refused.tsv has InvalidMonthRange at 7",
             "file: parse of '2020-13-01' is InvalidMonthRange at 8; the model has InvalidMonthRange at 7"])
 
     def test_handlers(self):
         text = '2020-01-01[!a=b][!u-ca=c][!u-ca=d]'
-        self.assertEqual(list(check.findings(row(text, Error('UnrecognizedCritical'), 16, handler=check.GIVES_BACK))), [])
-        self.assertEqual(list(check.findings(row(text, None, None, handler=check.GIVES_NONE))), [])
-        self.assertEqual(list(check.findings(row(text, Error('CriticalDuplicateCalendar'), 25, handler=check.answers_another))), [])
-        self.assertEqual(list(check.findings(row('2020-13-01', MONTH, 8, handler=check.GIVES_NONE)))[0][-37:],
-                         'places.tsv has InvalidMonthRange at 7')
+        self.assertEqual(list(check.findings(row(text, Error('UnrecognizedCritical'), 16, handler=model_rows.HANDLERS['keep']))), [])
+        self.assertEqual(list(check.findings(row(text, None, None, handler=model_rows.DROP))), [])
+        self.assertEqual(list(check.findings(row(text, Error('CriticalDuplicateCalendar'), 25, handler=model_rows.another))), [])
+        self.assertEqual(list(check.findings(row('2020-13-01', MONTH, 8, handler=model_rows.DROP)))[0][-38:],
+                         'refused.tsv has InvalidMonthRange at 7')
         pair = Annotation(True, 'x', 'y')
-        self.assertEqual(check.TURNS_CRITICAL()(pair), Annotation(False, 'x', 'y'))
-        self.assertEqual(check.MAKES_CRITICAL()(pair), pair)
+        self.assertEqual(model_rows.HANDLERS['turn-critical']()(pair), Annotation(False, 'x', 'y'))
+        self.assertEqual(model_rows.HANDLERS['make-critical']()(pair), pair)
 
     def test_a_handler_is_made_anew(self):
-        it = row('2020-01-01[a=b][!a=b]', Error('CriticalDuplicateCalendar'), 21, handler=check.answers_another)
+        it = row('2020-01-01[a=b][!a=b]', Error('CriticalDuplicateCalendar'), 21, handler=model_rows.another)
         self.assertEqual(list(check.findings(it)) + list(check.findings(it)), [])
 
 
@@ -74,29 +79,6 @@ class Literals(unittest.TestCase):
                 self.value(source)
 
 
-ABOVE = '''
-const AT_DIGIT: ParseError = AbruptEnd { location: "digit" };
-'''
-TABLES = '''
-const DATES: &[Refused] = &[
-    ("2020-", AT_DIGIT, 5), // a digit
-    ("2020-01-01x", InvalidEnd, 10),
-];
-const BAD: &[Refused] = &[("2020\\u{130}", DateMonth, 4)];
-const REPLIES: &[RefusedReply] = &[((Time, HandsBack, "T12[!a=b]", "[!a=b]"), UnrecognizedCritical, 9)];
-fn check_refused(rt: &impl Abort, reader: Reader, rows: &[Refused]) {}
-fn all() {
-    check_refused(&rt, Reader::Parse, DATES);
-    check_no_letter(&rt, Reader::Parse, BAD);
-    check_scanned(&rt, &[(Reader::Parse, "2020-01-01[a!\\u{130}]", IanaChar, 12, 13)]);
-    check_refused_in_both(&rt, Reader::MonthDay, &[("11-001", InvalidEnd, InvalidMonthDay)]);
-    check_refused_replies(&rt, REPLIES);
-    check_no_letter_replies(&rt, &[((Parse, RepliesNone, "2020-01-01\\u{130}", ""), InvalidEnd, 10)]);
-    check_heeded(&rt, &[((MonthDay, RepliesNone, "11-07[!a=b]", "[!a=b]"), NOVEMBER_7, None, None)]);
-}
-'''
-
-
 class Sources(unittest.TestCase):
     """Tests of the rows of each source."""
 
@@ -104,31 +86,21 @@ class Sources(unittest.TestCase):
         """The parts of rows that most tables have."""
         return [(it.reader, it.strict, it.wide, ''.join(map(chr, it.units)), it.error and check.said(it.error, None), it.place) for it in rows]
 
-    def test_tests(self):
-        rows = list(TestFile('file', TABLES, TestFile('above', ABOVE)).rows())
-        self.assertEqual(self.texts(rows), [
-            ('parse', False, False, '2020-', 'AbruptEnd digit', 5),
-            ('parse', False, True, '2020-', 'AbruptEnd digit', 5),
-            ('parse', False, False, '2020-01-01x', 'InvalidEnd', 10),
-            ('parse', False, True, '2020-01-01x', 'InvalidEnd', 10),
-            ('parse', False, False, '2020\xc4\xb0', 'DateMonth', 4),
-            ('parse', False, True, '2020\u0130', 'NonAsciiCodePoint', 4),
-            ('parse', False, False, '2020-01-01[a!\xc4\xb0]', 'IanaChar', 12),
-            ('parse', False, True, '2020-01-01[a!\u0130]', 'NonAsciiCodePoint', 13),
-            ('parse_month_day', False, False, '11-001', 'InvalidEnd', None),
-            ('parse_month_day', True, False, '11-001', 'InvalidMonthDay', None),
-            ('parse_time', False, False, 'T12[!a=b]', 'UnrecognizedCritical', 9),
-            ('parse_time', False, True, 'T12[!a=b]', 'UnrecognizedCritical', 9),
-            ('parse', False, False, '2020-01-01\xc4\xb0', 'InvalidEnd', 10),
-            ('parse', False, True, '2020-01-01\u0130', 'NonAsciiCodePoint', 10),
-            ('parse_month_day', False, False, '11-07[!a=b]', None, None),
-            ('parse_month_day', False, True, '11-07[!a=b]', None, None)])
-        self.assertIs(rows[10].handler, check.GIVES_BACK)
-        self.assertIs(rows[-1].handler, check.GIVES_NONE)
+    def test_tables(self):
+        tables = model_rows.tables
+        line = tables.Row('refused.tsv', 5, {'readers': 'month-day,duration', 'profile': 'any', 'bits': 'both', 'text': r'\\\t\x7f', 'error': 'DateMonth', 'at': '0'})
+        cases = list(tables.cases_of(line))
+        self.assertEqual([(it.word, it.width, it.units) for it in cases],
+                         [(word, width, (92, 9, 127)) for word in ('month-day', 'strict-month-day', 'duration', 'strict-duration') for width in (8, 16)])
+        self.assertEqual(list(model_rows.differences(cases[0])), [])
+        self.assertEqual(list(model_rows.differences(cases[4])), [('error', 'DateMonth', 'DurationDisgnator')])
 
     def test_a_table_that_cannot_be_read(self):
-        with self.assertRaises(ValueError):
-            list(TestFile('file', 'check_refused(&rt, Reader::Parse, &[(*text, DATES, 0)]);' + TABLES, TestFile('above', ABOVE)).rows())
+        with tempfile.NamedTemporaryFile('w', suffix='.tsv') as table:
+            table.write('# a comment\nreaders\ttext\nparse\t2020\nparse\n')
+            table.flush()
+            with self.assertRaisesRegex(SystemExit, ':4: expected 2 cells, found 1'):
+                list(model_rows.tables.rows(table.name))
 
     def test_examples(self):
         rows = check.rows_of_examples('file', '''
@@ -143,34 +115,6 @@ class Sources(unittest.TestCase):
 ''')
         self.assertEqual(self.texts(rows), [('parse_month_day', False, False, '11-8', 'AbruptEnd digit', 4),
                                             ('parse_time', False, False, 'T12[!a=b]', 'UnrecognizedCritical', 9)])
-
-    def test_c(self):
-        rows = list(check.rows_for_c('file', r'''
-static const struct error_row error_rows[] = {
-    { 1, "ImplAssert", "Implementation error: this error must not throw." },
-};
-
-static const struct row rows[] = {
-    { "month-day", TEXT("--\200"), "error DateMonth at 2" },
-    { "duration", TEXT("+"), "error AE DurationDesignator at 1" },
-    { "parse", TEXT("2020-01-01"), "ok date=2020,1,1" },
-};
-
-static const struct row wide_rows[] = {
-    { "duration", TEXT("P1Y\\u0080"), "error NonAsciiCodePoint at 3" },
-};
-
-static const struct handler_row handler_rows[] = {
-    { "time", "flip", TEXT("T12[!a=b]"), "ok time=12,0,0", "[!a=b]" },
-};
-'''))
-        self.assertEqual(self.texts(rows), [
-            ('parse_month_day', False, False, '--\x80', 'DateMonth', 2),
-            ('duration', False, False, '+', 'AbruptEnd DurationDesignator', 1),
-            ('parse', False, False, '2020-01-01', None, None),
-            ('duration', False, True, 'P1Y\x80', 'NonAsciiCodePoint', 3),
-            ('parse_time', False, False, 'T12[!a=b]', None, None)])
-        self.assertIs(rows[-1].handler, check.TURNS_CRITICAL)
 
 
 HELPERS = '''-- Helpers.
@@ -347,12 +291,38 @@ class Repository(unittest.TestCase):
 
     def test_each_source_is_read(self):
         rows = check.all_rows()
-        for source, least in check.LEAST.items():
-            self.assertGreaterEqual(len(rows[source]), least, source)
-        of_tests = {os.path.basename(it.path) for it in rows['tests']}
-        self.assertLessEqual({'refused.rt', 'wide_refused.rt', 'replies.rt', 'refused_replies.rt', 'profiles.rt'}, of_tests)
-        for source in rows.values():
-            self.assertTrue(any(it.error and it.error.location for it in source))
+        for source, of_source in rows.items():
+            self.assertGreaterEqual(len(of_source), check.LEAST[source], source)
+            self.assertTrue(any(it.error and it.error.location for it in of_source))
+        found, cases = check.findings_in_tables()
+        self.assertEqual(found, [])
+        self.assertGreaterEqual(cases, check.LEAST['tables'])
+
+    def test_each_part_of_the_tables_is_there(self):
+        """The tables have each reader, profile and width, each handler, and each error that a reader returns."""
+        tables = model_rows.tables
+        cases = tables.cases('accepted.tsv', 'refused.tsv')
+        words = {word for word in model_rows.READERS if word != 'iana' and not word.startswith(('canonical', 'instant'))}
+        strict = {f'strict-{word}' for word in tables.PROFILED}
+        for file in ('accepted.tsv', 'refused.tsv'):
+            found = {(it.word, it.width) for it in cases if it.row.file == file}
+            self.assertEqual(found, {(word, width) for word in words | strict for width in (8, 16)})
+        self.assertEqual({it.handler for it in tables.cases('replies.tsv')}, set(model_rows.HANDLERS) - {''})
+        self.assertEqual({it.row['error'].split(' ')[0] for it in cases if it.row.file == 'refused.tsv'}, set(places.TEXTS))
+        reasons = {it.row['reason'] for it in cases if it.row.cells.get('reason')}
+        self.assertEqual(len(reasons), 126 - 5)  # no reader reads the seconds of an offset that is a zone
+
+    @unittest.skipUnless(sys.version_info[:2] == (3, 11), 'tests/README.md shows what Python 3.11 prints')
+    def test_the_page_shows_another_parser(self):
+        page = check.read('tests/README.md')
+        shown = next(it for it in re.findall(r'```text\n(.*?)```', page, re.S) if it.startswith('tests/accepted.tsv')).splitlines()
+        ran = subprocess.run([sys.executable, 'tests/run_other.py', sys.executable, 'tests/other/fromisoformat.py'], cwd=check.ROOT, stdout=subprocess.PIPE, text=True)
+        self.assertEqual([it for it in ran.stdout.splitlines() if it in shown], shown)
+
+    def test_the_texts_of_errors(self):
+        texts = model_rows.tables.error_texts()
+        self.assertEqual(len(texts), 46)
+        self.assertEqual({name: texts[name] for name in places.TEXTS}, places.TEXTS)
 
 
 if __name__ == '__main__':

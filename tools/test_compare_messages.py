@@ -59,7 +59,7 @@ class Texts(unittest.TestCase):
             self.assertNotEqual(one, other)
 
     def test_kinds_of_texts(self):
-        """Each width has all cases, texts with each kind of code unit, and texts of places.tsv without a change."""
+        """Each width has all cases, texts with each kind of code unit, and texts of tests/refused.tsv without a change."""
         for wide in WIDTHS:
             made = compare_messages.texts(Chunk(wide, 1, 0, 3000))
             self.assertEqual({case for case, _ in made}, set(compare_messages.CASES))

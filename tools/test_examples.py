@@ -13,11 +13,11 @@ import tempfile
 import unittest
 from typing import Optional
 
-sys.path.insert(0, os.path.dirname(os.path.abspath(__file__)))
-import places
-from check_documents import SHOWN_FILE, Document, Tree
-
 ROOT = os.path.dirname(os.path.dirname(os.path.abspath(__file__)))
+sys.path[:0] = [os.path.join(ROOT, it) for it in ('tools', 'tests')]
+import places
+import tables
+from check_documents import SHOWN_FILE, Document, Tree
 
 # the word of `ixdtf_lines` for each method of the library
 WORDS = {
@@ -35,19 +35,8 @@ WORDS = {
 
 # the kind of `ixdtf_check` for each column of the texts of other programs
 KINDS = {'`parse`': 'date-time', '`parse_rfc3339`': 'rfc3339', '`parse_rfc9557`': 'rfc9557'}
-# the kind of `ixdtf_check` for each reader of tools/places.tsv
-KINDS_OF_READERS = {
-    'parse': 'date-time',
-    'parse_year_month': 'year-month',
-    'parse_month_day': 'month-day',
-    'parse_time': 'time',
-    'parse_rfc3339': 'rfc3339',
-    'parse_rfc9557': 'rfc9557',
-    'parse_offset': 'offset',
-    'parse_identifier': 'zone',
-    'parse_iana_identifier': 'zone-name',
-    'duration': 'duration',
-}
+# the kinds of `ixdtf_check`, by the words of the tables in tests/
+KINDS_OF_READERS = {'parse': 'date-time', **{it: it for it in ('year-month', 'month-day', 'time', 'rfc3339', 'rfc9557', 'offset', 'zone', 'zone-name', 'duration')}}
 # a space before an offset: in texts of these kinds, a report is about the space
 SPACED = re.compile(r' (?:[Zz]|[+-]\d)')
 SPACED_KINDS = ('date-time', 'time', 'rfc3339', 'rfc9557')
@@ -140,18 +129,19 @@ class Examples(unittest.TestCase):
         self.assertEqual([it.split() for it in ran.stdout.splitlines()], [['1', 'day_range'], ['2', 'month_range']], ran.stderr)
 
     def test_members_of_objects(self):
-        """Each text of tools/places.tsv has an object with the columns, the reason and the message of its row. Python reads the objects."""
+        """Each text of tests/refused.tsv with a reason has an object with the columns, the reason and the message of its row. Python reads the objects."""
         for reader, kind in KINDS_OF_READERS.items():
-            some = rows_of_places(reader)
+            some = explained_rows(reader)
             self.assertGreater(len(some), 5)
             shown = printed('ixdtf_check', ['--kind', kind, '--format', 'json'], ''.join(it['text'] + '\n' for it in some), ROOT)
             objects = [json.loads(it) for it in shown.splitlines() if it.startswith('{')]
             self.assertEqual([it['line'] for it in objects], list(range(1, len(some) + 1)), reader)
             for row, it in zip(some, objects):
-                is_spaced = kind in SPACED_KINDS and SPACED.match(row['text'], int(row['begin']))
-                reason = 'space_before_offset' if is_spaced else reason_name(row)
-                message = 'a space stands before the offset' if is_spaced else row['reason']
-                self.assertEqual((it['column'], it['end']), (int(row['begin']) + 1, int(row['end']) + 1), row)
+                begin, end = map(int, row['part'].split('..'))
+                is_spaced = kind in SPACED_KINDS and SPACED.match(row['text'], begin)
+                reason = 'space_before_offset' if is_spaced else row['reason']
+                message = 'a space stands before the offset' if is_spaced else row['message']
+                self.assertEqual((it['column'], it['end']), (begin + 1, end + 1), row)
                 self.assertEqual((it['reason'], it['text']), (reason, message), row)
 
     @unittest.skipUnless(shutil.which('jq'), 'jq is not installed')
@@ -232,17 +222,11 @@ class Examples(unittest.TestCase):
         self.assertEqual(printed('ixdtf_lines', [], ''.join(lines), ROOT).splitlines(), [instant_in(row) for row in rows])
 
 
-def rows_of_places(reader: str) -> list[dict[str, str]]:
-    """The rows of tools/places.tsv about texts of bytes for a reader, with the profile of the crate. Texts that the file writes with an escape are
-    left out."""
-    heads, *rows = [it.split('\t') for it in read('tools/places.tsv').splitlines()]
-    named = [dict(zip(heads, it)) for it in rows]
-    return [it for it in named if (it['reader'], it['profile'], it['bits']) == (reader, 'crate', '8') and '\\' not in it['text']]
-
-
-def reason_name(row: dict[str, str]) -> str:
-    """The name of the reason of a row of tools/places.tsv. If a reply is refused, it is the name of the error."""
-    return places.reason_name(row['error'] if row['line'] == 'reply' else row['line'])
+def explained_rows(reader: str) -> list[tables.Row]:
+    """The rows of tests/refused.tsv with a reason and a message about 8-bit texts for a reader, with the profile of the crate. Texts that the file
+    writes with an escape are left out."""
+    return [it for it in tables.rows('refused.tsv') if it['reason'] and it['message'] and it['part'] and reader in it['readers'].split(',')
+            and it['profile'] != 'strict' and it['bits'] != '16' and '\\' not in it['text']]
 
 
 def report_of(found: places.Refusal, text: str) -> tuple[int, str]:

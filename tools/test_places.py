@@ -1,17 +1,6 @@
 #!/usr/bin/env python3
-"""Tests of places.py, reasons.py and hints.py. They test each row of the fault table with examples from places.tsv. They also test that exactly
-one row fits a text, with exactly one front. check_documents.py compares the model with docs/FAULTS.md.
-
-Each line of places.tsv has these columns. A person wrote the text, the front and the place. The last three columns were written by reading each
-text, without the model. `\\uXXXX` means one code unit.
-
-    reader, profile, bits   the reader, its profile, and the number of bits of a code unit
-    line                    the line of the fault table; or `reply`, if a reply to an annotation is refused
-    row                     the row of this line: `end`, `bad`, `other` or `whole`; after `reply`, it is `refused`
-    text, front             the text, and the part of it before the error
-    error, place            the error and its position
-    begin, end              where the part of the text that is wrong begins and ends (see places.py)
-    reason                  the text of the reason
+"""Tests of places.py, reasons.py and hints.py. They test each row of the fault table with examples from tests/refused.tsv. They also test that
+exactly one row fits a text, with exactly one front. check_documents.py compares the model with docs/FAULTS.md.
 
 reasons.tsv has each text of a reason, with these columns:
 
@@ -36,9 +25,10 @@ from typing import Callable, Iterator, NamedTuple, Optional
 from unittest import mock
 
 TOOLS = os.path.dirname(os.path.abspath(__file__))
-sys.path.insert(0, TOOLS)
+sys.path[:0] = [TOOLS, os.path.join(os.path.dirname(TOOLS), 'tests')]
 import places
 import reasons
+import tables
 from check_documents import ROOT, Document, Tree
 from places import Annotation, Error, Example, Fault, examples
 
@@ -58,12 +48,7 @@ def row_of(example: Example) -> Optional[places.Row]:
 
 
 class Examples(unittest.TestCase):
-    """Tests of the lines of places.tsv: each row of the table has one."""
-
-    def test_place_is_the_length_of_the_front(self):
-        for it in examples():
-            self.assertEqual(len(it.front), it.place, it)
-            self.assertEqual(it.units[:it.place], it.front, it)
+    """Tests of the examples: each row of the fault table has one."""
 
     def test_outcome(self):
         for it in examples():
@@ -82,7 +67,7 @@ class Examples(unittest.TestCase):
             if it.row == places.AT_BAD:
                 self.assertTrue(it.wide and not 1 <= behind[0] <= 126, it)
             if it.row == 'refused':
-                self.assertEqual(chr(it.front[-1]), ']', it)
+                self.assertEqual(chr(it.units[it.place - 1]), ']', it)
 
     def test_each_row_has_an_example(self):
         shown = {(it.line, it.row, it.error) for it in examples()}
@@ -103,13 +88,13 @@ def reasons_of_model() -> dict[int, places.Reason]:
 
 
 def model_says(it: Example) -> tuple:
-    """What the model has for the last three columns of an example."""
+    """What the model has for the part and the message of an example."""
     found = reasons_of_model()[id(it)]
     return found.begin, found.end, places.reason_text(found, it.units, it.wide, it.strict)
 
 
 class Reasons(unittest.TestCase):
-    """Tests of the reasons in places.tsv."""
+    """Tests of the reasons of the examples."""
 
     def test_reason(self):
         for it in examples():
@@ -184,7 +169,7 @@ def reason_texts() -> list[ReasonText]:
     """The lines of reasons.tsv."""
     with open(os.path.join(TOOLS, 'reasons.tsv'), encoding='ascii', newline='') as file:
         return [ReasonText(row['line'], row['way'], LETTERS.get(row['at'], row['at']), row['text'], row['bits'] == '16',
-                           row['example'].split(' ')[0], places.units_of(row['example'].partition(' ')[2]), int(row['begin']), int(row['end']),
+                           row['example'].split(' ')[0], list(tables.units_of(row['example'].partition(' ')[2])), int(row['begin']), int(row['end']),
                            row['shown'])
                 for row in csv.DictReader(file, delimiter='\t', quoting=csv.QUOTE_NONE)]
 
@@ -240,7 +225,7 @@ class Texts(unittest.TestCase):
                 self.assertRegex(it.text, r'\Athe text (is empty|ends) ?.*; expected ')
 
     def test_each_text_is_in_the_list_of_places(self):
-        """Each text of reasons.tsv is also the reason of an example of places.tsv for the same line."""
+        """Each text of reasons.tsv is also the message of an example of tests/refused.tsv for the same line."""
         for it in reason_texts():
             pattern = re.sub(r'\\\{\w+\\\}', '.+', re.escape(it.text))
             line = 'reply' if it.way == places.REFUSED else it.line
@@ -539,10 +524,10 @@ class Reports(unittest.TestCase):
 
 
 class WrongModels(unittest.TestCase):
-    """Tests that places.tsv finds each of these mistakes in the model."""
+    """Tests that the examples find each of these mistakes in the model."""
 
     def differences(self, shown: list[Example], says: Callable[[Example], tuple] = model_says) -> int:
-        """The number of examples for which a model says something else than places.tsv."""
+        """The number of examples for which a model says something else than the table."""
         return sum(says(it) != (it.begin, it.end, it.reason) for it in shown)
 
     def of_each_row(self) -> Iterator[tuple[tuple, list[Example]]]:

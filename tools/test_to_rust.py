@@ -32,9 +32,9 @@ PAIRS += [(f'crates/ixdtf_{layer}/src', 'rust/ixdtf/src') for layer in LAYERS]
 # crates whose root file is made by the tool
 WITH_ROOTS = {'crates/ixdtf/src', 'crates/ixdtf_print/src', 'crates/ixdtf_buffers/src', 'crates/ixdtf_c/src'}
 # files that a person wrote, by their modules
-BY_HAND = {'main', 'tests/printing', 'abort', 'slices', 'place'}
+BY_HAND = {'main', 'abort', 'slices', 'place'}
 # the modules that the tool leaves out, by the folder of the crate. A module in such a module is left out too.
-LEFT_OUT = {'crates/ixdtf/src': {'laws'}, 'crates/ixdtf_tests/src': {'tests/laws', 'tests/printed_durations', 'tests/printed_kinds'},
+LEFT_OUT = {'crates/ixdtf/src': {'laws'}, 'crates/ixdtf_tests/src': {'tests/laws', 'tests/printing'},
             'crates/ixdtf_print/src': {'laws'}, 'crates/ixdtf_answers/src': {'laws'}, 'crates/ixdtf_buffers/src': {'memory'},
             'crates/ixdtf_checks/src': {'laws'}, 'crates/ixdtf_c/src': {'laws', 'turns', 'tests'}, 'crates/ixdtf_reading/src': {'looks'}}
 
@@ -121,7 +121,7 @@ def phrase(text):
     return tokens_of(text)
 
 
-REMOVED = [phrase(t) for t in ['#![tactic(auto)]', '#[rattlefmt::skip]', 'use std::marker::Model;', '#[derive(Drop)]', 'pub mod laws;', 'mod laws;', 'mod printed_durations;', 'mod printed_kinds;',
+REMOVED = [phrase(t) for t in ['#![tactic(auto)]', '#[rattlefmt::skip]', 'use std::marker::Model;', '#[derive(Drop)]', 'pub mod laws;', 'mod laws;', 'mod printing;',
                                '#[cfg(test)] mod tests;', '#[cfg(test)]', 'pub mod turns;', 'pub mod memory;', 'pub use laws::{ canonical_fits, canonical_is_read_back, duration_fits, duration_is_read_back, month_day_fits, month_day_is_read_back, offset_fits,'
                                ' offset_is_read_back, rfc9557_is_read_back, time_fits, time_is_read_back, year_month_fits, year_month_is_read_back, zone_fits, zone_is_read_back, };', 'use crate::looks::Looks;', 'looks: Looks,', 'looks: Looks::none(),', 'self.looks.tick();',
                                'let common = left.len().min(right.len());', 'self.looks.tick_by(common);', 'self.looks.tick_by(4);',

@@ -121,17 +121,15 @@ CRATES = [
     Crate('crates/ixdtf/src', 'rust/ixdtf/src', ['laws'], ends=LIBRARY),
     *(Crate(f'crates/{layer}/src', 'rust/ixdtf/src', ['lib', 'looks'], layer=layer) for layer in LAYERS),
     Crate('crates/ixdtf_callers/src', 'rust/ixdtf/src', ['lib'], root='callers', tests=True),
-    Crate('crates/ixdtf_tests/src', 'rust/ixdtf/src', ['lib', 'tests/laws', 'tests/printing', 'tests/printed_durations', 'tests/printed_kinds'], root='tests', tests=True),
+    Crate('crates/ixdtf_tests/src', 'rust/ixdtf/src', ['lib', 'tests/laws', 'tests/printing'], root='tests', tests=True),
     Crate('crates/ixdtf_print/src', 'rust/ixdtf_print/src', ['laws'], ends=PRINTER, above=True),
     Crate('crates/ixdtf_buffers/src', 'rust/ixdtf_buffers/src', ['memory', 'place'], ends=PROGRAM, above=True),
     Crate('crates/ixdtf_answers/src', 'rust/ixdtf_lines/src', ['laws', 'lib'], ends=PROGRAM, above=True),
     Crate('crates/ixdtf_checks/src', 'rust/ixdtf_check/src', ['laws', 'lib'], ends=PROGRAM, above=True),
     Crate('crates/ixdtf_c/src', 'rust/ixdtf_c/src', ['laws', 'turns', 'tests', 'slices'], ends=FOR_C, above=True, exports=True),
 ]
-WRITTEN_BY_HAND = {'rust/ixdtf/src/from_text.rs', 'rust/ixdtf/src/runtime.rs', 'rust/ixdtf/src/tests/printing.rs', 'rust/ixdtf_lines/src/main.rs', 'rust/ixdtf_check/src/main.rs',
+WRITTEN_BY_HAND = {'rust/ixdtf/src/from_text.rs', 'rust/ixdtf/src/runtime.rs', 'rust/ixdtf_lines/src/main.rs', 'rust/ixdtf_check/src/main.rs',
                    'rust/ixdtf_c/src/abort.rs', 'rust/ixdtf_c/src/slices.rs', 'rust/ixdtf_buffers/src/place.rs'}
-# files that are copied, because a package cannot have a file from outside of its folder
-COPIES = {'rust/ixdtf/tests/places.tsv': 'tools/places.tsv'}
 DERIVES = {'Clone', 'Copy', 'Debug', 'Default', 'Eq', 'Hash', 'Ord', 'PartialEq', 'PartialOrd'}
 KEPT_ATTRIBUTES = {'inline', 'inline(always)', 'inline(never)', 'cold', 'doc(hidden)', 'allow(clippy::needless_match)'}
 TEST_ATTRIBUTES = {'test', 'cfg(test)'}
@@ -979,9 +977,7 @@ def main():
     if sys.argv[1:] not in ([], ['--check']):
         raise SystemExit(__doc__)
     files = made()
-    for path, source in COPIES.items():
-        files[path] = text_of(source)
-    there = {path for path in COPIES if os.path.exists(os.path.join(TOP, path))}
+    there = set()
     for target in {crate.target for crate in CRATES}:
         for folder, _, names in os.walk(os.path.join(TOP, target)):
             there |= {os.path.relpath(os.path.join(folder, name), TOP) for name in names}

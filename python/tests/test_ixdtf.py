@@ -1,7 +1,6 @@
 """The tests of the package. python/test builds the package and runs them. If the package is installed, you can also run them with
 python3 -m unittest discover -s python/tests"""
 import copy
-import csv
 import datetime
 import doctest
 import gc
@@ -75,75 +74,52 @@ def three_lines(error):
     return lines[:3]
 
 
-def reason_of(row):
-    """Returns the name of the reason of a row of tools/places.tsv."""
-    line, _, word = row["line"].partition(" ")
-    if line == "reply":
-        return {"UnrecognizedCritical": "unrecognized_critical", "CriticalDuplicateCalendar": "critical_duplicate_calendar"}[row["error"]]
-    if line in ("field_digits", "field_range"):
-        return word + line.removeprefix("field")
-    if line == "after_field":
-        return "after_" + word
-    if line in ("group_digits", "group_value_range", "unit_order"):
-        return word + "_" + line.replace("value_", "")
-    clocks = {"": "", "Time": "", "Offset": "offset_", "MinuteOffset": "zone_offset_"}
-    return clocks[word] + {"first_dots_form": "first_name_form"}.get(line, line)
+def refused_cases():
+    """Returns the cases of tests/refused.tsv of the repository for 16-bit text."""
+    sys.path.insert(0, str(TOP / "tests"))
+    import tables
+    return [it for it in tables.cases("refused.tsv") if it.width == 16]
 
 
 class Rows(unittest.TestCase):
-    """Each row of tools/places.tsv for 8-bit text: a text, its error, the position of the error and the part that is wrong, which a person counted, and
-    the message."""
+    """Each row of tests/refused.tsv as a str: a text, its error, the position of the error and the part that is wrong, and the message. test_lines.py
+    tests all rows as bytes."""
+
+    METHODS = {"year-month": "parse_year_month", "month-day": "parse_month_day", "time": "parse_time", "rfc3339": "parse_rfc3339", "rfc9557": "parse_rfc9557",
+               "offset": "parse_offset", "zone": "parse_identifier", "zone-name": "parse_iana_identifier"}
 
     def check_explained(self, error, row):
         """Checks the reason, the part and the message of an error, and the report, which shows the text."""
-        self.assertEqual((error.reason, error.start, error.end), (reason_of(row), int(row["begin"]), int(row["end"])))
-        message = row["reason"].replace("the code unit 0x", "U+")
-        self.assertEqual(error.message, message)
+        message = row["message"].replace("the code unit 0x", "U+")
+        self.assertEqual((error.reason, f"{error.start}..{error.end}", error.message), (row["reason"], row["part"], message))
         lines = three_lines(error)
         self.assertEqual((lines[0], lines[2].lstrip(" ")), (message, "^" * min(24, max(1, error.end - error.start))))
         if error.start <= 48:
             self.assertEqual(len(lines[2]) - len(lines[2].lstrip(" ")), error.start)
 
-    def test_rows(self):
-        seen = 0
-        with open(TOP / "tools" / "places.tsv", encoding="utf-8", newline="") as file:
-            for row in csv.DictReader(file, delimiter="\t", quoting=csv.QUOTE_NONE):
-                if row["bits"] != "8":
-                    continue
-                text = row["text"].encode("utf-8").decode("unicode_escape").encode("latin-1")
-                keywords = {"strict": True} if row["profile"] == "strict" and row["reader"] in WITH_PROFILES else {}
-                with self.subTest(reader=row["reader"], text=text):
-                    error = refusal(READERS[row["reader"]], text, **keywords)
-                    name, _, within = row["error"].partition(" ")
-                    self.assertEqual(error.name.replace("_", "").lower(), name.lower())
-                    self.assertEqual((error.position, error.within), (int(row["place"]), within))
-                    self.check_explained(error, row)
-                    self.assertFalse(ixdtf.is_valid(text, KINDS[row["reader"]], **keywords))
-                seen += 1
-        self.assertGreater(seen, 250)
-
-
     def test_rows_as_str(self):
-        """Each row as a str. The position of the error is that of the row, except that a row for 16-bit text can have a character that is not ASCII. Then
-        another error can be found before it."""
-        seen = other = 0
-        with open(TOP / "tools" / "places.tsv", encoding="utf-8", newline="") as file:
-            for row in csv.DictReader(file, delimiter="\t", quoting=csv.QUOTE_NONE):
-                units = row["text"].encode("utf-8").decode("unicode_escape").encode("utf-16-le", "surrogatepass")
-                text = units.decode("utf-16-le", "surrogatepass")  # a pair of surrogates is one character
-                keywords = {"strict": True} if row["profile"] == "strict" and row["reader"] in WITH_PROFILES else {}
-                with self.subTest(row=row):
-                    error = refusal(READERS[row["reader"]], text, **keywords)
-                    seen += 1
-                    if row["error"] == "NonAsciiCodePoint":
-                        self.assertLessEqual(error.position, int(row["place"]))
-                        other += error.position != int(row["place"])
-                    else:
-                        self.assertEqual((error.position, error.within), (int(row["place"]), row["error"].partition(" ")[2]))
-                    if error.position == int(row["place"]):
-                        self.check_explained(error, row)
-        self.assertGreater(seen, 350)
-        self.assertLess(other, 10)
+        """The position of the error is that of the row, except that a row for 16-bit text can have a character that is not ASCII. Then another error can
+        be found, because the package reads the str as UTF-8."""
+        seen = explained = other = 0
+        for case in refused_cases():
+            row, reader = case.row, self.METHODS.get(case.reader, case.reader)
+            units = b"".join(unit.to_bytes(2, "little") for unit in case.units)
+            text = units.decode("utf-16-le", "surrogatepass")  # a pair of surrogates is one character
+            keywords = {"strict": True} if case.is_strict else {}
+            with self.subTest(case=str(case)):
+                error = refusal(READERS[reader], text, **keywords)
+                self.assertFalse(ixdtf.is_valid(text, KINDS[reader], **keywords))
+                seen += 1
+                if row["error"] == "NonAsciiCodePoint":
+                    other += error.position != int(row["at"])
+                elif row["at"]:
+                    self.assertEqual((error.position, error.within), (int(row["at"]), row["error"].partition(" ")[2]))
+                if row["part"] and row["message"] and error.position == int(row["at"]):
+                    self.check_explained(error, row)
+                    explained += 1
+        self.assertGreater(seen, 1400)
+        self.assertGreater(explained, 350)
+        self.assertLess(other, 30)
 
 
 class Texts(unittest.TestCase):

@@ -1,39 +1,32 @@
-"""Compares the package with the program ixdtf_lines. For each line, such as `parse 2024-03-02`, the program writes an answer, such as
+"""Compares the package with the tables of tests/, and with the program ixdtf_lines. For each line, such as `parse 2024-03-02`, the program writes an answer, such as
 `ok date=2024,3,2` (docs/PROGRAM.md). These tests make the same answer from what the package returns or raises. They also read each canonical text again.
 
-IXDTF_LINES is the path of the program. If this environment variable is set, the texts of tools/places.tsv, and changes of them, are the lines.
+IXDTF_LINES is the path of the program. If this environment variable is set, the texts of the tables in tests/, and changes of them, are the lines.
 IXDTF_ANSWERS is the path of a folder with lines and the answers to them. If this variable is set, each pair of files NAME.in and NAME.out is tested. The
 folder may also have handlers.jsonl and units16.jsonl, with texts for handlers, and texts of 16-bit code units, and the answers to them."""
-import csv
 import json
 import os
 import pathlib
 import random
 import subprocess
+import sys
 import unittest
 
 import ixdtf
-from ixdtf import IxdtfError, Z
+from ixdtf import IxdtfError
 
-PLACES = pathlib.Path(__file__).resolve().parents[2] / "tools" / "places.tsv"
+TABLES = pathlib.Path(__file__).resolve().parents[2] / "tests"
+sys.path[:0] = [str(TABLES), str(TABLES / "targets")]
+import rows
+import tables
+
 LIMIT = 4096  # the bytes of the longest line that the program reads
 
 # the reader for each word, and whether it reads with the strict profile
 WORDS = {
-    "parse": (ixdtf.parse, {}),
-    "year-month": (ixdtf.parse_year_month, {}),
-    "month-day": (ixdtf.parse_month_day, {}),
-    "time": (ixdtf.parse_time, {}),
-    "rfc3339": (ixdtf.parse_rfc3339, {}),
-    "rfc9557": (ixdtf.parse_rfc9557, {}),
-    "offset": (ixdtf.parse_offset, {}),
-    "zone": (ixdtf.parse_zone, {}),
+    **{word: (reader, {}) for word, reader in rows.READERS.items()},
     "iana": (ixdtf.parse_zone_name, {}),
-    "zone-name": (ixdtf.parse_zone_name, {}),
-    "duration": (ixdtf.parse_duration, {}),
-    "strict-month-day": (ixdtf.parse_month_day, {"strict": True}),
-    "strict-time": (ixdtf.parse_time, {"strict": True}),
-    "strict-duration": (ixdtf.parse_duration, {"strict": True}),
+    **{f"strict-{word}": (rows.READERS[word], {"strict": True}) for word in tables.PROFILED},
 }
 # the kind for is_valid, if it is not the word
 VALID = {"parse": "date-time", "iana": "zone-name"}
@@ -47,51 +40,6 @@ CANONICAL = {
     "canonical-zone": (ixdtf.parse_zone, ()),
     "canonical-duration": (ixdtf.parse_duration, ()),
 }
-# the word for each reader of tools/places.tsv
-ROWS = {"parse_year_month": "year-month", "parse_month_day": "month-day", "parse_time": "time", "parse_rfc3339": "rfc3339", "parse_rfc9557": "rfc9557",
-        "parse_offset": "offset", "parse_identifier": "zone", "parse_iana_identifier": "iana"}
-
-
-def fraction(value):
-    """Returns a fraction with nine digits, or nothing."""
-    return "" if value is None else f".{value.nanosecond:09}"
-
-
-def offset(value):
-    if value is Z:
-        return "Z"
-    second = "" if value.second is None else f",{value.second}{fraction(value.fraction)}"
-    return f"{'-' if value.sign < 0 else '+'}{value.hour},{value.minute}{second}"
-
-
-def zone(value):
-    return ("!" if value.is_critical else "") + (value.name if value.name is not None else offset(value.offset))
-
-
-def fields(value):
-    """Yields the fields of the answer for a value that a reader returns."""
-    if isinstance(value, ixdtf.Duration):
-        yield "sign=" + ("-" if value.sign < 0 else "+")
-        if value.days is not None:
-            yield f"date={value.years},{value.months},{value.weeks},{value.days}"
-        times = [it for it in (value.hours, value.minutes, value.seconds) if it is not None]
-        if times:
-            yield "time=" + ",".join(map(str, times)) + fraction(value.fraction)
-    elif isinstance(value, ixdtf.Offset):
-        yield "offset=" + offset(value)
-    elif isinstance(value, ixdtf.Zone):
-        yield "tz=" + zone(value)
-    else:
-        if value.date is not None:
-            yield f"date={value.date.year},{value.date.month},{value.date.day}"
-        if value.time is not None:
-            yield f"time={value.time.hour},{value.time.minute},{value.time.second}{fraction(value.time.fraction)}"
-        if value.offset is not None:
-            yield "offset=" + offset(value.offset)
-        if value.zone is not None:
-            yield "tz=" + zone(value.zone)
-        if value.calendar is not None:
-            yield "calendar=" + value.calendar
 
 
 def answer(word, text, **keywords):
@@ -99,17 +47,13 @@ def answer(word, text, **keywords):
     try:
         if word in WORDS:
             reader, strict = WORDS[word]
-            return " ".join(["ok", *fields(reader(text, **strict, **keywords))])
+            return "ok " + rows.fields(reader(text, **strict, **keywords))
         if word in CANONICAL:
             reader, kinds = CANONICAL[word]
             return "ok " + ixdtf.canonical(reader(text), *kinds)
         if word == "instant":
-            record = ixdtf.parse(text)
-            try:
-                found = ixdtf.instant(record)
-            except ValueError:
-                return "error no instant"
-            return f"ok seconds={found.seconds} nanoseconds={found.nanoseconds}"
+            found = rows.instant(ixdtf.parse(text))
+            return "error no instant" if found == "none" else "ok seconds={} nanoseconds={}".format(*found.split(","))
     except IxdtfError as error:
         return "error " + error.crate_text
     return None
@@ -119,6 +63,18 @@ def lines_of(data):
     """Returns the lines of a file, without their newlines."""
     lines = data.split(b"\n")
     return lines[:-1] if lines[-1] == b"" else lines
+
+
+class Rows(unittest.TestCase):
+    def test_rows(self):
+        """The package answers each text of the tables for 8-bit text, as bytes, as the row says. tests/run.py does the same, also as str."""
+        seen = 0
+        for case in tables.cases("accepted.tsv", "refused.tsv", "replies.tsv"):
+            if case.width == 8:
+                seen += 1
+                answer = dict(cell.split("=", 1) for cell in rows.cells(case.word, case.handler, bytes(case.units)))
+                self.assertEqual(list(tables.differences(case, answer)), [], str(case))
+        self.assertGreater(seen, 2000)
 
 
 class Lines(unittest.TestCase):
@@ -225,38 +181,20 @@ class Lines(unittest.TestCase):
 
 
 def texts():
-    """Yields the word and the text of each row of tools/places.tsv for 8-bit text, and some accepted texts."""
-    with open(PLACES, encoding="utf-8", newline="") as file:
-        for row in csv.DictReader(file, delimiter="\t", quoting=csv.QUOTE_NONE):
-            if row["bits"] == "8":
-                word = ROWS.get(row["reader"], row["reader"])
-                strict = row["profile"] == "strict" and "strict-" + word in WORDS
-                yield ("strict-" if strict else "") + word, row["text"].encode().decode("unicode_escape").encode("latin-1")
-    accepted = {
-        "parse": ("2024-03-02T08:48:00.25-05:00[!America/New_York][u-ca=hebrew]", "20240302 084800,123456789123z[etc/utc]", "-271821-04-20T00+00:00:00.5[a=b]"),
-        "year-month": ("2020-11[Europe/Paris]", "+00202011[u-ca=a]"),
-        "month-day": ("--11-07[u-ca=hebrew]", "1100[+05:30]"),
-        "time": ("T12:30:05,5-01:00", "T1214z[!u-ca=a]", "12+01[+01]"),
-        "rfc3339": ("2024-03-02T08:48:60.25-05:00",),
-        "rfc9557": ("2024-03-02T08:48:00.25-05:00[America/New_York][u-ca=hebrew]",),
-        "offset": ("-05:30:10.5", "+0530"),
-        "zone": ("Europe/Paris", "-0530"),
-        "iana": ("Etc/GMT+5",),
-        "duration": ("-P1Y2M3W4DT5H6M7.5S", "PT0,5H", "p1y1d"),
-    }
-    for word, all_of in accepted.items():
-        yield from ((word, text.encode()) for text in all_of)
+    """Yields the word and the text of each case of the tables for 8-bit text, unless the text has a newline."""
+    for case in tables.cases("accepted.tsv", "refused.tsv", "replies.tsv"):
+        if case.width == 8 and 10 not in case.units:
+            yield case.word, bytes(case.units)
 
 
 def changed(generator):
     """Yields lines: each text for each word, and then texts with a few bytes changed, inserted or dropped."""
-    rows = list(texts())
+    pairs = sorted(set(texts()))
     words = [*WORDS, *CANONICAL, "instant"]
-    for _, text in rows:
-        if b"\n" not in text:
-            yield from (f"{word} ".encode() + text for word in words)
+    for text in sorted({text for _, text in pairs}):
+        yield from (f"{word} ".encode() + text for word in words)
     related = {"parse": ["canonical", "instant"], **{word[len("canonical-"):]: [word] for word in CANONICAL if "-" in word}}
-    for word, text in rows * 30:
+    for word, text in pairs * 4:
         new = bytearray(text)
         for _ in range(generator.randrange(1, 4)):
             where = generator.randrange(len(new) + 1)

@@ -1,21 +1,15 @@
-//! Tests for `ixdtf_check` of what no contract states: examples of lines, failing readers and writers, and the arguments.
+//! Tests for `ixdtf_check` of what no contract states: the counts of complete runs, and readers and writers that fail. The reports, the arguments
+//! and the options are in the cases of the folder `tests`.
 
-mod arguments;
-mod coloured;
-mod columns;
 mod faults;
-mod hints;
-mod json;
-mod marks;
-mod ordered;
-mod shown;
-mod skips;
-mod worked;
 
 use ixdtf::parsers::Profile;
+use ixdtf_buffers::place::pass_many;
 use ixdtf_checks::checker::check;
+use ixdtf_checks::exit_status::status_of;
 use ixdtf_checks::kind::Kind;
-use ixdtf_checks::request::{Extent, Field, Format, Request, Task};
+use ixdtf_checks::request::{Format, Request, Task};
+use ixdtf_checks::tally::Tally;
 use std::alloc::Global;
 use std::process::Abort;
 use std::test::Fail;
@@ -31,53 +25,6 @@ const DATE_TIMES: Request<'static> = Request {
     format: Format::Text,
     is_quiet: false,
 };
-
-/// The second field of a line. There are commas between the fields.
-const SECOND_FIELD: Field = Field {
-    before: 1,
-    separator: b',',
-    extent: Extent::One,
-};
-
-/// The second field of a record of RFC 4180.
-const SECOND_OF_RECORD: Field = Field {
-    extent: Extent::Csv,
-    ..SECOND_FIELD
-};
-
-/// Returns a request that checks texts of the kind under the profile.
-fn asked_of(kind: Kind, profile: Profile) -> Request<'static> {
-    Request {
-        task: Task::Check(kind),
-        profile,
-        ..DATE_TIMES
-    }
-}
-
-/// Asserts that a check of one line writes the report. If the report is empty, the line is accepted, and otherwise it is refused.
-fn check_line(
-    rt: &impl Abort,
-    alloc: Global,
-    request: &Request<'_>,
-    line: &[u8],
-    report: &str,
-) -> Result<(), Fail> {
-    let refused = u64::from(!report.is_empty());
-    check_written(rt, alloc, request, line, report.as_bytes(), (1, refused))
-}
-
-/// Each row has a kind, a text and a report. Asserts that a check of the text, as a text of this kind, writes this report.
-fn check_kinds(
-    rt: &impl Abort,
-    alloc: Global,
-    rows: &[(Kind, &'static str, &'static str)],
-) -> Result<(), Fail> {
-    for (kind, text, report) in rows {
-        let request = asked_of(*kind, Profile::Crate);
-        check_line(rt, alloc, &request, text.as_bytes(), report)?;
-    }
-    Ok(())
-}
 
 /// Asserts that a check of the input writes the bytes, and nothing to the second output, and that it counts all bytes of the input.
 /// `counts` has the number of lines, and the number of refused lines.
@@ -113,4 +60,90 @@ fn check_both(
     assert_eq!(rt; checked.tally.refused, counts.1);
     assert_eq!(rt; checked.tally.bytes, input.len() as u64);
     Ok(())
+}
+
+const MIXED: &[u8] = b"2024-03-02T08:48:00Z\n2020-W01-1\n\n2021-02-29\r\n2020-01-01\r\n2020-13-01";
+
+const MIXED_REPORTS: &[u8] = b"f:2:6: expected a digit of the month, which has two, found `W`\n\
+2020-W01-1\n     ^\nhint: a week is not read; write the month instead\n\
+f:3:1: the text is empty; expected a year of four digits\n\n^\n\
+f:4:9: the day is 29, and has to be 01 to 28\n2021-02-29\n        ^^\n\
+f:6:6: the month is 13, and has to be 01 to 12\n2020-13-01\n     ^^\n";
+
+#[test]
+fn reports_the_lines_that_are_refused(rt: HostRuntime) -> Result<(), Fail> {
+    check_written(&rt, rt.alloc(), &DATE_TIMES, MIXED, MIXED_REPORTS, (6, 4))?;
+    check_written(&rt, rt.alloc(), &DATE_TIMES, b"", b"", (0, 0))?;
+    check_written(&rt, rt.alloc(), &DATE_TIMES, b"2020-01-01", b"", (1, 0))
+}
+
+#[test]
+fn counts_in_quiet(rt: HostRuntime) -> Result<(), Fail> {
+    let mut request = DATE_TIMES;
+    request.is_quiet = true;
+    check_written(&rt, rt.alloc(), &request, MIXED, b"", (6, 4))
+}
+
+#[test]
+fn reports_no_more_lines_than_asked(rt: HostRuntime) -> Result<(), Fail> {
+    let mut request = DATE_TIMES;
+    request.most_reports = 4;
+    check_written(&rt, rt.alloc(), &request, MIXED, MIXED_REPORTS, (6, 4))?;
+    request.most_reports = 1;
+    let first =
+        b"f:2:6: expected a digit of the month, which has two, found `W`\n2020-W01-1\n     ^\nhint: a week is not read; write the month instead\n";
+    check_written(&rt, rt.alloc(), &request, MIXED, first, (6, 4))?;
+    request.most_reports = 0;
+    check_written(&rt, rt.alloc(), &request, MIXED, b"", (6, 4))
+}
+
+#[test]
+fn passes_over_sixteen_bytes(rt: HostRuntime) {
+    let fields = b"a,b,c,d,e,f,g,h,i,j";
+    let passed = pass_many(b',', 9, fields);
+    assert_eq!(rt; passed.place, 16);
+    assert_eq!(rt; passed.left, 1);
+    let stayed = pass_many(b',', 8, fields);
+    assert_eq!(rt; stayed.place, 0);
+    assert_eq!(rt; stayed.left, 8);
+}
+
+#[test]
+fn writes_canonical_texts_and_reports_apart(rt: HostRuntime) -> Result<(), Fail> {
+    let mut request = DATE_TIMES;
+    request.task = Task::Print(Kind::DateTime);
+    let input = b"2020-13-01\n20200101T00+00[+00]\n2020-01-00\n";
+    let canonical = b"2020-01-01T00:00:00+00:00[+00:00]\n";
+    let reports = b"f:1:6: the month is 13, and has to be 01 to 12\n2020-13-01\n     ^^\n\
+f:3:9: the day is 00, and has to be 01 to 31\n2020-01-00\n        ^^\n";
+    let alloc = rt.alloc();
+    check_both(&rt, alloc, &request, input, (canonical, reports), (3, 2))?;
+    request.most_reports = 1;
+    let first = &reports[..66];
+    check_both(&rt, alloc, &request, input, (canonical, first), (3, 2))?;
+    request.is_quiet = true;
+    check_written(&rt, alloc, &request, input, canonical, (3, 2))
+}
+
+#[test]
+fn adds_up(rt: HostRuntime) {
+    let mut total = Tally::new();
+    let one = Tally {
+        lines: 3,
+        refused: 1,
+        bytes: 40,
+    };
+    total.add(one);
+    total.add(one);
+    assert_eq!(rt;
+        total,
+        Tally {
+            lines: 6,
+            refused: 2,
+            bytes: 80
+        }
+    );
+    assert_eq!(rt; status_of(false, total.refused), 1);
+    assert_eq!(rt; status_of(true, 0), 2);
+    assert_eq!(rt; status_of(false, 0), 0);
 }

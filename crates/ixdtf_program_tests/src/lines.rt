@@ -1,7 +1,7 @@
-//! Tests of what no contract states about `ixdtf_lines`: examples of lines, and failing readers and writers.
+//! Tests of what no contract states about `ixdtf_lines`: complete runs, and failing readers and writers. The texts with their answers are in the
+//! tables of the folder `tests`.
 
 mod faults;
-mod words;
 
 use ixdtf_answers::no_arguments::arguments_allowed;
 use ixdtf_answers::runner::run;
@@ -92,90 +92,7 @@ fn answers_each_line(rt: HostRuntime) -> Result<(), Fail> {
 #[test]
 fn answers_nothing_for_nothing(rt: HostRuntime) -> Result<(), Fail> {
     check_answers(&rt, rt.alloc(), &[])?;
-    check_answers(&rt, rt.alloc(), &[("", "error unknown reader")])
-}
-
-#[test]
-fn answers_unknown_words(rt: HostRuntime) -> Result<(), Fail> {
-    let lines = [
-        "hello",
-        "parse",
-        " parse 20201108",
-        "Parse 20201108",
-        "parse2 20201108",
-        "parse\t20201108",
-        "iana",
-        "Zone UTC",
-        "offsets +05:00",
-        "of +05:00",
-        "durations P1Y",
-    ];
-    for line in lines {
-        check_answers(&rt, rt.alloc(), &[(line, "error unknown reader")])?;
-    }
-    Ok(())
-}
-
-#[rattlefmt::skip]
-const AFTER_THE_FIRST_SPACE: &[(&str, &str)] = &[
-    ("parse ", "error Parsing ended abruptly while parsing digit"),
-    ("parse 2020-01-01 05", "ok date=2020,1,1 time=5,0,0"),
-    ("parse 20201108\r", "error Unexpected character found after parsing was completed."),
-];
-
-#[test]
-fn takes_all_after_the_first_space_as_text(rt: HostRuntime) -> Result<(), Fail> {
-    check_answers(&rt, rt.alloc(), AFTER_THE_FIRST_SPACE)
-}
-
-#[test]
-fn answers_a_last_line_without_a_newline(rt: HostRuntime) -> Result<(), Fail> {
-    let rows = [
-        ("hello", "error unknown reader\n"),
-        ("parse", "error unknown reader\n"),
-        (
-            "parse ",
-            "error Parsing ended abruptly while parsing digit\n",
-        ),
-        ("parse 2020-01-01 05", "ok date=2020,1,1 time=5,0,0\n"),
-    ];
-    for (line, answer) in rows {
-        check_run(&rt, rt.alloc(), line.as_bytes(), answer.as_bytes())?;
-    }
-    Ok(())
-}
-
-#[test]
-fn bounds_the_line(rt: HostRuntime) -> Result<(), Fail> {
-    let mut line = Vec::new(rt.alloc());
-    line.extend_from_slice(b"parse ")?;
-    for _ in 0..4090 {
-        line.push(b'2')?;
-    }
-    check_run(
-        &rt,
-        rt.alloc(),
-        line.as_slice(),
-        b"error Parsed month value not in a valid range.\n",
-    )?;
-    line.extend_from_slice(b"2\nparse 20201108")?;
-    check_run(
-        &rt,
-        rt.alloc(),
-        line.as_slice(),
-        b"error line too long\nok date=2020,11,8\n",
-    )
-}
-
-#[test]
-fn answers_more_than_the_array_holds(rt: HostRuntime) -> Result<(), Fail> {
-    let mut lines = Vec::new(rt.alloc());
-    let mut answers = Vec::new(rt.alloc());
-    for _ in 0..1000 {
-        lines.extend_from_slice(b"x\n")?;
-        answers.extend_from_slice(b"error unknown reader\n")?;
-    }
-    check_run(&rt, rt.alloc(), lines.as_slice(), answers.as_slice())
+    check_run(&rt, rt.alloc(), b"hello", b"error unknown reader\n")
 }
 
 #[test]
@@ -197,14 +114,4 @@ fn shows_numbers(rt: HostRuntime) {
     assert_eq!(rt; &room[..most], b"18446744073709551615".as_slice());
     let zero = add_number(&mut room, 0, 0);
     assert_eq!(rt; &room[..zero], b"0".as_slice());
-}
-
-#[test]
-fn shows_nine_digits(rt: HostRuntime) -> Result<(), Fail> {
-    check_run(
-        &rt,
-        rt.alloc(),
-        b"time 00:00:00.25\ntime 00:00:00.000000007",
-        b"ok time=0,0,0.250000000\nok time=0,0,0.000000007\n",
-    )
 }

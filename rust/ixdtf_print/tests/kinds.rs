@@ -64,37 +64,6 @@ fn printed_month_day(record: &Record<'_>) -> Result<String, PrintError> {
     printed(|out| print_month_day(record, out), month_day_length(record), shown)
 }
 
-#[test]
-fn prints_canonical_texts() {
-    for (text, canonical) in [("-05", "-05:00"), ("+0130", "+01:30"), ("+013015,50", "+01:30:15.50"), ("-00:00:00", "-00:00:00")] {
-        let offset = TimeZoneParser::from_str(text).parse_offset().unwrap();
-        assert_eq!(printed_offset(&offset).as_deref(), Ok(canonical));
-    }
-    for (text, canonical) in [("-05", "-05:00"), ("+0130", "+01:30"), ("Europe/Paris", "Europe/Paris"), ("_", "_")] {
-        let zone = TimeZoneParser::from_str(text).parse_identifier().unwrap();
-        assert_eq!(printed_zone(&zone).as_deref(), Ok(canonical));
-    }
-    for (text, canonical) in [
-        ("12+01[+01]", "12:00:00+01:00[+01:00]"),
-        ("t1214z[!u-ca=a][x=y]", "12:14:00Z[u-ca=a]"),
-        ("T2360", ""),
-        ("235960,0-00:00:00.0[!cet]", "23:59:60.0-00:00:00.0[!cet]"),
-    ] {
-        match IxdtfParser::from_str(text).parse_time() {
-            Ok(record) => assert_eq!(printed_time(&record).as_deref(), Ok(canonical)),
-            Err(_) => assert_eq!(canonical, ""),
-        }
-    }
-    for (text, canonical) in [("202011[+01]", "2020-11[+01:00]"), ("-00000101", "-000001-01"), ("+00000001[u-ca=a]", "0000-01[u-ca=a]")] {
-        let record = IxdtfParser::from_str(text).parse_year_month().unwrap();
-        assert_eq!(printed_year_month(&record).as_deref(), Ok(canonical));
-    }
-    for (text, canonical) in [("1107[+01]", "11-07[+01:00]"), ("--0229", "02-29"), ("--01-00[u-ca=a]", "01-00[u-ca=a]")] {
-        let record = IxdtfParser::from_str(text).parse_month_day().unwrap();
-        assert_eq!(printed_month_day(&record).as_deref(), Ok(canonical));
-    }
-}
-
 /// A printer refuses the records of the other readers. There is one exception: the first day of a month in the year 0.
 #[test]
 fn refuses_what_another_reader_returns() {

@@ -1,9 +1,6 @@
 //! Tests of the functions for 8-bit text.
 
-use super::rows::{
-    Call, DATE, DURATION, DURATION_ROWS, LIST_ROWS, Lasting, ListCall, Listed, OFFSET, REPLY_ROWS,
-    ROWS, TIME, Written,
-};
+use super::{DATE, DURATION, OFFSET, TIME};
 use crate::exports::*;
 use crate::narrow::{Annotation, Calendar, Record, Zone};
 use crate::turns::parse_in_turn;
@@ -34,88 +31,66 @@ const ANNOTATION: Annotation<'static> = Annotation {
     is_critical: false,
 };
 
-/// Passes the 8-bit text to the reader, and returns what the reader returned and wrote.
-fn read(call: Call, text: &[u8]) -> Written {
+#[test]
+fn writes_a_record(rt: HostRuntime) {
     let mut record = RECORD;
-    let out = &mut record;
-    let number = match call {
-        Call::Parse => ixdtf_parse(text, out),
-        Call::YearMonth => ixdtf_parse_year_month(text, out),
-        Call::MonthDay => ixdtf_parse_month_day(text, out),
-        Call::MonthDayStrict => ixdtf_parse_month_day_strict(text, out),
-        Call::Time => ixdtf_parse_time(text, out),
-        Call::TimeStrict => ixdtf_parse_time_strict(text, out),
-        Call::Rfc3339 => ixdtf_parse_rfc3339(text, out),
-        Call::Rfc9557 => ixdtf_parse_rfc9557(text, out),
-        Call::Offset => ixdtf_parse_offset(text, out),
-        Call::Identifier => ixdtf_parse_identifier(text, out),
-        Call::IanaIdentifier => ixdtf_parse_iana_identifier(text, out),
-    };
-    let forms = (record.date, record.time, record.offset);
-    let zone = (record.zone.form, record.zone.hour, record.zone.name.len());
-    let others = (record.calendar.len(), record.location.len(), record.place);
-    Written::of(number, forms, zone, others)
-}
-
-/// Passes the 8-bit text to the reader that lists annotations, and returns what the reader returned and wrote.
-fn list(call: ListCall, text: &[u8]) -> Listed {
-    let mut record = RECORD;
-    let mut annotations = [ANNOTATION, ANNOTATION];
-    let mut count = 9;
-    let (slots, found, out) = (&mut annotations, &mut count, &mut record);
-    let number = match call {
-        ListCall::Parse => ixdtf_parse_with_annotations(text, slots, found, out),
-        ListCall::YearMonth => ixdtf_parse_year_month_with_annotations(text, slots, found, out),
-        ListCall::MonthDay => ixdtf_parse_month_day_with_annotations(text, slots, found, out),
-        ListCall::Time => ixdtf_parse_time_with_annotations(text, slots, found, out),
-        ListCall::Rfc9557 => ixdtf_parse_rfc9557_with_annotations(text, slots, found, out),
-        ListCall::MonthDayStrict => {
-            ixdtf_parse_month_day_with_annotations_strict(text, slots, found, out)
-        }
-        ListCall::TimeStrict => ixdtf_parse_time_with_annotations_strict(text, slots, found, out),
-    };
-    let second = annotations[1];
-    Listed {
-        outcome: (number, record.place),
-        count,
-        second: (second.is_critical, second.key.len(), second.value.len()),
-    }
-}
-
-/// Passes the 8-bit text to the reader of durations, and returns what the reader returned and wrote.
-fn read_duration(is_strict: bool, text: &[u8]) -> Lasting {
-    let mut out = DURATION;
-    let number = if is_strict {
-        ixdtf_parse_duration_strict(text, &mut out)
-    } else {
-        ixdtf_parse_duration(text, &mut out)
-    };
-    Lasting::of(number, &out)
+    let text = b"2024-03-02T08:48:00.25-05:00[America/New_York][u-ca=hebrew]".as_slice();
+    assert_eq!(rt; ixdtf_parse(text, &mut record), 0);
+    let numbers = (record.date.year, record.time.fraction, record.offset.hour);
+    assert_eq!(rt; numbers, (2024, 25, 5));
+    let lengths = (record.zone.name.len(), record.calendar.len());
+    assert_eq!(rt; lengths, (16, 6));
+    assert_eq!(rt; ixdtf_parse_time(b"T1330Z[+05:30]", &mut record), 0);
+    assert!(rt; !record.date.is_there && record.date.year == 0);
+    assert!(rt; !record.has_calendar && record.calendar.is_empty());
+    assert_eq!(rt; (record.zone.form, record.zone.name.len()), (2, 0));
 }
 
 #[test]
-fn reads_texts(rt: HostRuntime) {
-    for (call, text, wanted) in ROWS {
-        let written = read(call, text);
-        assert_eq!(rt; written, wanted, "at {text:?}");
-    }
+fn leaves_a_record_after_an_error(rt: HostRuntime) {
+    let mut record = RECORD;
+    assert_eq!(rt; ixdtf_parse(b"2021-02-2", &mut record), 4);
+    assert_eq!(rt; (record.location.len(), record.place), (5, 9));
+    assert_eq!(rt; ixdtf_parse_month_day_strict(b"12-00", &mut record), 46);
+    assert_eq!(rt; (record.location.len(), record.place), (0, 5));
+    let numbers = (record.date.year, record.time.hour, record.offset.hour);
+    assert_eq!(rt; numbers, (1, 1, 1));
+    assert_eq!(rt; (record.zone.name.len(), record.calendar.len()), (1, 1));
+}
+
+#[test]
+fn leaves_a_duration_after_an_error(rt: HostRuntime) {
+    let mut duration = DURATION;
+    assert_eq!(rt; ixdtf_parse_duration_strict(b"P1Y2Y", &mut duration), 41);
+    assert_eq!(rt; (duration.place, duration.location.len()), (5, 0));
+    assert_eq!(rt; (duration.years, duration.hours), (9, 9));
+    assert_eq!(rt; ixdtf_parse_duration(b"P1Y2Y", &mut duration), 0);
+    assert_eq!(rt; (duration.years, duration.hours, duration.place), (2, 0, 0));
 }
 
 #[test]
 fn lists_annotations(rt: HostRuntime) {
-    for (call, text, wanted) in LIST_ROWS {
-        let listed = list(call, text);
-        assert_eq!(rt; listed, wanted, "at {text:?}");
-    }
+    let mut record = RECORD;
+    let mut slots = [ANNOTATION, ANNOTATION];
+    let mut count = 9;
+    let text = b"2024-03-02[a=b][!c=de][u-ca=x]".as_slice();
+    let number = ixdtf_parse_with_annotations(text, &mut slots, &mut count, &mut record);
+    assert_eq!(rt; (number, count, record.has_calendar), (0, 3, false));
+    assert!(rt; slots[1].is_critical && slots[1].value.len() == 2);
+    let text = b"2024-03[a=b]junk".as_slice();
+    let number = ixdtf_parse_year_month_with_annotations(text, &mut slots, &mut count, &mut record);
+    assert_eq!(rt; (number, count, record.place), (5, 1, 12));
+    assert!(rt; slots[1].is_critical);
 }
 
-#[test]
-fn reads_durations(rt: HostRuntime) {
-    for (is_strict, text, wanted) in DURATION_ROWS {
-        let written = read_duration(is_strict, text);
-        assert_eq!(rt; written, wanted, "at {text:?}");
-    }
-}
+/// Replies, the number that is returned for each, and whether a calendar is kept after it.
+const REPLIES: [(&[u8], &[u8], bool, u32, bool); 5] = [
+    (b"x", b"y", false, 0, false),
+    (b"u-ca", b"hebrew", false, 0, true),
+    (b"u-ca", b"hebrew", true, 0, true),
+    (b"u-ca", b"iso8601", true, 31, true),
+    (b"x", b"y", true, 32, true),
+];
 
 #[test]
 fn takes_replies(rt: HostRuntime) {
@@ -124,15 +99,16 @@ fn takes_replies(rt: HostRuntime) {
         is_critical: false,
         is_there: false,
     };
-    for row in REPLY_ROWS {
+    for (key, value, is_critical, number, is_kept) in REPLIES {
         let reply = Annotation {
-            key: row.key,
-            value: row.value,
-            is_critical: row.is_critical,
+            key,
+            value,
+            is_critical,
         };
-        assert_eq!(rt; ixdtf_reply(&mut calendar, &reply), row.number);
-        assert_eq!(rt; (calendar.is_there, calendar.value.len()), row.kept);
+        assert_eq!(rt; ixdtf_reply(&mut calendar, &reply), number);
+        assert_eq!(rt; calendar.is_there, is_kept);
     }
+    assert_eq!(rt; calendar.value, b"hebrew".as_slice());
 }
 
 #[test]

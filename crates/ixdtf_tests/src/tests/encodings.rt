@@ -1,16 +1,13 @@
-//! Tests of the two encodings.
+//! Tests of the two encodings. The 16-bit code units from 1 to 126 are read as ASCII characters, and every other one is bad.
 
 use super::check;
-use super::wide::Wide;
+use ixdtf::ParseError;
 use ixdtf::encoding::{EncodingType, Utf8, Utf16};
-use ixdtf::parsers::TimeZoneParser;
-use std::process::Abort;
+use ixdtf::parsers::{IsoDurationParser, IxdtfParser, Profile, TimeZoneParser};
 use std::test::Fail;
 
 // Texts, and what `Debug` writes for their parser.
 const SHOWN: &[(&str, &str)] = &[
-    ("", "TimeZoneParser { cursor: \"\" }"),
-    ("+01:00 ~", "TimeZoneParser { cursor: \"+01:00 ~\" }"),
     ("\"\\\"", "TimeZoneParser { cursor: \"\\\"\\\\\\\"\" }"),
     ("\n\u{7f}", "TimeZoneParser { cursor: \"\\x0a\\x7f\" }"),
     (
@@ -26,58 +23,66 @@ fn debug_shows_the_text_of_a_parser(rt: HostRuntime) -> Result<(), Fail> {
         let written = format!(in rt.alloc(); "{parser:?}")?;
         check(&rt, text, written.as_str() == *shown);
     }
-    let wide = Wide::new("\u{2212}01");
-    let parser = TimeZoneParser::from_utf16(wide.units());
+    let parser = TimeZoneParser::from_utf16(&[0x2212, 48, 49]);
     let written = format!(in rt.alloc(); "{parser:?}")?;
     let shown = "TimeZoneParser { cursor: \"\\u{2212}01\" }";
     check(&rt, "wide", written.as_str() == shown);
     Ok(())
 }
 
-const UNITS: [u8; 3] = [0, 65, 255];
-
-const LETTERS: &[(usize, Option<u8>)] = &[(0, Some(0)), (1, Some(65)), (2, Some(255)), (3, None)];
-
-fn check_letter(rt: &impl Abort, index: usize, letter: Option<u8>) {
-    let is_letter = Utf8::get_ascii(&UNITS, index) == Ok(letter);
-    assert!(rt; is_letter, "at {index}");
-}
-
-#[test]
-fn bytes_are_letters(rt: HostRuntime) {
-    for (index, letter) in LETTERS {
-        check_letter(&rt, *index, *letter);
+// Returns whether a code unit from 1 to 126 is read as its ASCII character, and any other one as bad.
+fn is_seen(unit: u16) -> bool {
+    let letter = Utf16::get_ascii(&[unit], 0);
+    match u8::try_from(unit) {
+        Ok(byte) if byte > 0 && byte < 127 => letter == Ok(Some(byte)),
+        _ => letter == Err(ParseError::NonAsciiCodePoint),
     }
 }
 
-fn check_slice(rt: &impl Abort, start: usize, end: usize, part: Option<&'static [u8]>) {
-    let is_part = Utf8::slice(b"abc", start, end) == part;
-    assert!(rt; is_part, "from {start} to {end}");
+#[test]
+fn sees_each_unit(rt: HostRuntime) {
+    for unit in 0..=u16::MAX {
+        assert!(rt; is_seen(unit), "at {unit}");
+    }
 }
+
+const UNITS: [u16; 3] = [97, 306, 99];
 
 #[test]
 fn slices_lie_within(rt: HostRuntime) {
-    check_slice(&rt, 0, 2, Some(b"ab"));
-    check_slice(&rt, 3, 3, Some(b""));
-    check_slice(&rt, 2, 1, None);
-    check_slice(&rt, 0, 4, None);
+    let front = Utf8::slice(b"abc", 0, 2);
+    check(&rt, "a front", front == Some(b"ab".as_slice()));
+    check(&rt, "too long", Utf8::slice(b"abc", 0, 4) == None);
+    let rest = Utf16::slice(&UNITS, 1, 3);
+    check(&rt, "units", rest == Some([306u16, 99].as_slice()));
+    check(&rt, "units backwards", Utf16::slice(&UNITS, 2, 1) == None);
+    check(&rt, "too many units", Utf16::slice(&UNITS, 0, 4) == None);
+    check(&rt, "the end", Utf16::get_ascii(&UNITS, 3) == Ok(None));
 }
 
-// Returns whether the key is that of calendars, for 8-bit and 16-bit text.
-fn is_of_calendars(key: &str) -> (bool, bool) {
-    let wide = Wide::new(key);
-    (
-        Utf8::check_calendar_key(key.as_bytes()),
-        Utf16::check_calendar_key(wide.units()),
-    )
-}
-
-const OTHER_KEYS: &[&str] = &["u-cA", "u-c", "u-ca-", "\u{175}-ca", ""];
+const OTHER_KEYS: &[&str] = &["u-cA", "u-c", "u-ca-", ""];
 
 #[test]
 fn one_key_is_of_calendars(rt: HostRuntime) {
-    check(&rt, "u-ca", is_of_calendars("u-ca") == (true, true));
+    check(&rt, "u-ca", Utf8::check_calendar_key(b"u-ca"));
     for key in OTHER_KEYS {
-        check(&rt, key, is_of_calendars(key) == (false, false));
+        check(&rt, key, !Utf8::check_calendar_key(key.as_bytes()));
     }
+    let key: [u16; 4] = [117, 45, 99, 97];
+    check(&rt, "u-ca in units", Utf16::check_calendar_key(&key));
+    let other: [u16; 4] = [373, 45, 99, 97];
+    check(&rt, "another", !Utf16::check_calendar_key(&other));
+}
+
+#[test]
+fn parsers_are_as_large_as_a_slice_and_a_profile(rt: HostRuntime) {
+    let slice = size_of::<&'static [u8]>();
+    let size = size_of::<(&'static [u8], Profile)>();
+    check(&rt, "a profile", size == slice.saturating_mul(3) / 2);
+    let wide_dates = size_of::<IxdtfParser<'static, Utf16>>();
+    check(&rt, "a wide parser", wide_dates == size);
+    let durations = size_of::<IsoDurationParser<'static, Utf8>>();
+    check(&rt, "a parser of durations", durations == size);
+    let zones = size_of::<TimeZoneParser<'static, Utf16>>();
+    check(&rt, "a parser of zones", zones == slice);
 }

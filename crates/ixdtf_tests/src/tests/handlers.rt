@@ -1,9 +1,10 @@
+//! Tests of handlers with a state.
+
 use super::{Record, check, dated, morning, short};
+use ixdtf::ParserResult;
 use ixdtf::encoding::Utf8;
 use ixdtf::parsers::IxdtfParser;
-use ixdtf::records::{Annotation, DateRecord, Sign, UtcOffsetRecordOrZ};
-use ixdtf::{ParseError, ParserResult};
-use std::test::Fail;
+use ixdtf::records::{Annotation, Sign, UtcOffsetRecordOrZ};
 
 // Returns the result for a text, if the reply to an annotation with the key `x` is a calendar that is not in the text.
 fn with_a_foreign_calendar(text: &'static str) -> ParserResult<Record> {
@@ -68,63 +69,4 @@ fn passes_over_the_answer_to_the_universe(rt: HostRuntime) {
     let record = morning(Some(offset), None, Some("iso8601"));
     check(&rt, text, found == Ok(record));
     check(&rt, "its calls", seen.second_is_known && seen.calls == 2);
-}
-
-// Returns the result of a parser, and then the result of the same parser with a handler that drops all annotations.
-fn read_in_turn(text: &'static str) -> (ParserResult<Record>, ParserResult<Record>) {
-    let mut parser = IxdtfParser::from_str(text);
-    let first = parser.parse();
-    (
-        first,
-        parser.parse_with_annotation_handler(|_annotation| None),
-    )
-}
-
-#[test]
-fn keeps_pairs_that_it_refused(rt: HostRuntime) {
-    let (first, second) = read_in_turn("2020-01-01[u-ca=a][x=y][!c=d]");
-    let is_refused = first == Err(ParseError::UnrecognizedCritical);
-    check(&rt, "the first call", is_refused);
-    let is_read = second == Ok(dated(2020, 1, 1, None));
-    check(&rt, "the second call", is_read);
-}
-
-// Returns the date of a text as a `ParserResult`. The handler drops all annotations.
-fn date_of(text: &'static str) -> ParserResult<Option<DateRecord>> {
-    let mut parser = IxdtfParser::from_str(text);
-    match parser.parse_with_annotation_handler(|_annotation| None) {
-        Ok(record) => Ok(record.date),
-        Err(error) => Err(error),
-    }
-}
-
-#[test]
-fn hands_an_error_on(rt: HostRuntime) -> Result<(), Fail> {
-    let date = date_of("2020-01-02[!c=d]")?;
-    let wanted = DateRecord {
-        year: 2020,
-        month: 1,
-        day: 2,
-    };
-    check(&rt, "a date", date == Some(wanted));
-    let is_refused = date_of("2020-01-02[!c=d") == Err(ParseError::AnnotationClose);
-    check(&rt, "an open bracket", is_refused);
-    Ok(())
-}
-
-// Returns how many times the handler is called for a text, whatever the result is.
-fn count_calls(text: &str) -> u32 {
-    let mut parser = IxdtfParser::from_str(text);
-    let mut calls = 0u32;
-    let _ = parser.parse_with_annotation_handler(|annotation| {
-        calls = calls.saturating_add(1);
-        Some(annotation)
-    });
-    calls
-}
-
-#[test]
-fn may_be_discarded(rt: HostRuntime) {
-    let text = "2020-01-01[a=b][!c=d]";
-    check(&rt, text, count_calls(text) == 2);
 }

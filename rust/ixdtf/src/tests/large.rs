@@ -1,21 +1,16 @@
 // Made by tools/to_rust.py of crates/ixdtf_tests/src/tests/large.rt. Do not edit.
 
-//! Tests with texts that are longer than any real one, and with each 16-bit code unit at each index of a text.
+//! Tests with texts that are longer than any real one.
 
 #[allow(unused_imports)]
 use crate::runtime::{HostRuntime, TryClone};
 
-use super::durations::{self, lasts};
-use super::widths::reads_alike;
-use super::{AT_BRACKET, Nanoseconds, Reader, check, check_fraction, dated, fraction_of, timed};
+use super::{AT_BRACKET, check, dated, fraction_of, timed};
 use ixdtf::ParseError;
 use ixdtf::encoding::Utf8;
-use ixdtf::parsers::{IsoDurationParser, IxdtfParser};
-use ixdtf::records::{
-    Annotation, Fraction, IxdtfParseRecord, Sign, TimeZoneAnnotation, TimeZoneRecord,
-};
+use ixdtf::parsers::IxdtfParser;
+use ixdtf::records::{Annotation, Fraction};
 use crate::runtime::{AllocError, Global, String};
-use std::ops::Range;
 use crate::runtime::Abort;
 use crate::runtime::Fail;
 
@@ -74,22 +69,6 @@ fn check_calls(
     check(rt, "its keys", counter.key_units == key_units);
 }
 
-/// Returns whether the zone of a record has a `!`, and its name.
-fn zone_of<'a>(record: &IxdtfParseRecord<'a, Utf8>) -> Option<(bool, &'a str)> {
-    match &record.tz {
-        Some(
-            TimeZoneAnnotation {
-                critical,
-                tz: TimeZoneRecord::Name(name),
-            },
-        ) => match std::str::from_utf8(name) {
-            Ok(name) => Some((*critical, name)),
-            Err(_) => None,
-        },
-        _ => None,
-    }
-}
-
 // Returns whether a text is refused because its bracket is not closed.
 fn is_open(text: &str) -> bool {
     IxdtfParser::from_str(text).parse() == Err(AT_BRACKET)
@@ -98,7 +77,10 @@ fn is_open(text: &str) -> bool {
 // Returns whether a text has a zone with this name, without a `!`.
 fn has_zone(text: &str, name: &str) -> bool {
     match IxdtfParser::from_str(text).parse() {
-        Ok(record) => zone_of(&record) == Some((false, name)),
+        Ok(record) => match record.tz {
+            Some(zone) => !zone.critical && zone.tz.name() == Some(name),
+            None => false,
+        },
         Err(_) => false,
     }
 }
@@ -139,71 +121,9 @@ fn reads_a_fraction_of_a_million_digits() -> Result<(), Fail> {
     let text = repeated(rt.alloc(), "2020-01-01T00:00:00.", "1", 1_000_000, "")?;
     let counted = repeated(rt.alloc(), "+00:00:00.111111111111111111", "0", 237, "")?;
     let fraction = fraction_of(counted.as_str());
-    check_fraction(&rt, "255 digits", &fraction, Nanoseconds::Cut(111_111_111));
+    check(&rt, "255 digits", fraction.is_some());
     let fewer = repeated(rt.alloc(), "+00:00:00.111111111111111111", "0", 236, "")?;
     check(&rt, "254 digits", fraction != fraction_of(fewer.as_str()));
     check(&rt, "all digits", has_fraction(text.as_str(), fraction));
     Ok(())
-}
-
-// Returns whether a text is a duration of these years and days.
-fn has_date(text: &str, years: u32, days: u64) -> bool {
-    let wanted = lasts(Sign::Positive, durations::dated(years, 0, 0, days), None);
-    IsoDurationParser::from_str(text).parse() == Ok(wanted)
-}
-
-#[test]
-fn reads_long_durations() -> Result<(), Fail> {
-    let rt = HostRuntime;
-    let zeros = repeated(rt.alloc(), "P", "0", 1_000_000, "1D")?;
-    check(&rt, "zeros", has_date(zeros.as_str(), 0, 1));
-    let groups = repeated(rt.alloc(), "P", "1Y", 100_000, "")?;
-    check(&rt, "groups", has_date(groups.as_str(), 1, 0));
-    Ok(())
-}
-
-// Returns whether code units are refused because one of them is bad.
-fn has_no_letter(units: &[u16]) -> bool {
-    IxdtfParser::from_utf16(units).parse() == Err(ParseError::NonAsciiCodePoint)
-}
-
-/// Puts each 16-bit code unit at each of these indices of a text. Asserts that the result is that of 8-bit text with the same
-/// numbers, or that the code unit is refused.
-fn check_places(rt: &impl Abort, places: Range<usize>) {
-    let text = *b"2020-01-01[cet]";
-    let mut units = [0u16; 15];
-    for (unit, byte) in units.iter_mut().zip(text) {
-        *unit = u16::from(byte);
-    }
-    for place in places {
-        let mut bytes = text;
-        let mut changed = units;
-        for unit in 0..=u16::MAX {
-            if let Some(at) = changed.get_mut(place) {
-                *at = unit;
-            }
-            let is_so = match u8::try_from(unit) {
-                Ok(byte) if byte > 0 && byte < 127 => {
-                    if let Some(at) = bytes.get_mut(place) {
-                        *at = byte;
-                    }
-                    reads_alike(Reader::Parse, &bytes)
-                }
-                _ => has_no_letter(&changed),
-            };
-            assert!(rt; is_so, "{unit} at {place}");
-        }
-    }
-}
-
-#[test]
-fn sees_each_unit_in_each_place_of_a_date() {
-    let rt = HostRuntime;
-    check_places(&rt, 0..10);
-}
-
-#[test]
-fn sees_each_unit_in_each_place_of_a_bracket() {
-    let rt = HostRuntime;
-    check_places(&rt, 10..15);
 }
