@@ -1,17 +1,39 @@
 """The tests of the package. python/test builds the package and runs them. If the package is installed, you can also run them with
 python3 -m unittest discover -s python/tests"""
+import array
 import copy
+import dataclasses
 import datetime
 import doctest
 import gc
+import json
 import pathlib
 import pickle
 import random
 import sys
 import threading
+import typing
 import unittest
+import warnings
 import weakref
 import zoneinfo
+
+try:
+    import numpy
+except ImportError:
+    numpy = None
+try:
+    import pandas
+except ImportError:
+    pandas = None
+
+try:
+    import pydantic
+    import pydantic.dataclasses
+except ImportError:
+    pydantic = None
+else:
+    pydantic = pydantic if pydantic.VERSION >= "2" else None
 
 import ixdtf
 from ixdtf import Annotation, Date, Duration, Fraction, Instant, IxdtfError, Offset, Record, Time, Z, Zone
@@ -53,6 +75,7 @@ ACCEPTED = {
     "parse_iana_identifier": "Europe/Paris",
     "duration": "P1D",
 }
+REPLY = Annotation("u-ca", "of-a-reply")
 WITH_PROFILES = ("parse_month_day", "parse_time", "duration")
 UTC = datetime.timezone.utc
 
@@ -192,6 +215,16 @@ class Texts(unittest.TestCase):
         self.assertEqual(ixdtf.parse(buffer, handler=empty).calendar, "a")
         self.assertEqual(buffer, b"")
 
+    def test_buffers_of_other_items(self):
+        """Only a buffer with one dimension and with items of one byte is a text. The bytes of an array of numbers or of texts are not one."""
+        self.assertEqual(ixdtf.parse(array.array("b", b"2024-03-02")), ixdtf.parse("2024-03-02"))
+        self.assertEqual(ixdtf.parse(memoryview(b"2024-03-02").cast("c")), ixdtf.parse("2024-03-02"))
+        for wrong in (array.array("H", b"2024-03-02"), memoryview(b"2024-03-02").cast("B", (2, 5)), memoryview(b"2024-03-02").cast("B", (1, 10)), memoryview(b"2").cast("?"),
+                      memoryview(b"2").cast("B", ())):
+            for call in (ixdtf.parse, ixdtf.is_valid, ixdtf.parse_duration):
+                with self.assertRaises(TypeError):
+                    call(wrong)
+
     def test_subclasses(self):
         """A text of a subclass of str or bytes can refer to its record. Such a cycle is freed."""
 
@@ -259,6 +292,18 @@ class Records(unittest.TestCase):
         self.assertEqual(ixdtf.parse("2024-03-02T08-00:00:01,5").offset, Offset(-1, 0, 0, 1, Fraction(1, 5)))
         self.assertEqual(ixdtf.parse("2024-03-02[-05]").zone, Zone(None, Offset(-1, 5, 0)))
 
+    def test_parts_are_kept(self):
+        """A part is made once. It is a named tuple like any other, with the same hash."""
+        for text in (self.FULL, "2024-03-02T08:48:00-05:00:01.5[+01:00]", "2024-03-02"):
+            record = ixdtf.parse(text)
+            for name in record.__match_args__:
+                part = getattr(record, name)
+                self.assertIs(getattr(record, name), part)
+                if isinstance(part, tuple):
+                    same = type(part)(*part)
+                    self.assertEqual((part, hash(part), part._replace(), part._asdict()), (same, hash(same), same, same._asdict()))
+        self.assertEqual([type(it) for it in ixdtf.parse(self.FULL).zone], [str, type(None), bool])
+
     def test_parts_that_are_not_there(self):
         record = ixdtf.parse("-000001-02-03")
         self.assertEqual((record.date, record.time, record.offset, record.zone, record.calendar), (Date(-1, 2, 3), None, None, None, None))
@@ -298,6 +343,44 @@ class Records(unittest.TestCase):
             with self.assertRaises(AttributeError):
                 Record(**wrong)
 
+    def test_str(self):
+        """str() of a record is its canonical text. If it has none, it is what repr() returns."""
+        for text in (self.FULL, "2024-03-02", "2024-03-02T08:48:00Z[UTC]"):
+            self.assertEqual((str(ixdtf.parse(text)), f"{ixdtf.parse(text)}"), (text, text))
+        self.assertEqual(str(ixdtf.parse_time("T1214z")), "12:14:00Z")
+        for record in (Record(), Record(Date(2024, 2, 30)), ixdtf.parse_month_day("11-00")):
+            self.assertEqual(str(record), repr(record))
+
+    def test_dates_and_times(self):
+        record = ixdtf.parse("2024-03-02T08:48:00.25")
+        self.assertEqual((record.date.to_date(), record.time.to_time()), (datetime.date(2024, 3, 2), datetime.time(8, 48, 0, 250000)))
+        for wrong in (Date(0, 1, 1), Date(10000, 1, 1), Date(2024, 3, 0), Date(2023, 2, 29)):
+            with self.assertRaises(ValueError):
+                wrong.to_date()
+        for time, cut in ((Time(23, 59, 60), datetime.time(23, 59, 59)), (Time(0, 0, 0, Fraction(7, 1234567)), datetime.time(0, 0, 0, 123456))):
+            with self.assertRaises(ValueError):
+                time.to_time()
+            self.assertEqual(time.to_time(truncate=True), cut)
+
+    def test_offsets(self):
+        """An offset as a timedelta and as a timezone. Z has both too."""
+        for text, minutes in (("T00+05:30", 330), ("T00-05:30", -330), ("T00-00:00", 0), ("T00Z", 0)):
+            offset = ixdtf.parse_time(text).offset
+            delta = datetime.timedelta(minutes=minutes)
+            self.assertEqual((offset.to_timedelta(), offset.to_timezone()), (delta, datetime.timezone(delta)))
+        self.assertIs(Z.to_timezone(), UTC)
+        self.assertEqual(ixdtf.parse_offset("+00:00:01.000001").to_timezone().utcoffset(None), datetime.timedelta(seconds=1, microseconds=1))
+        with self.assertRaises(ValueError):
+            ixdtf.parse_offset("+00:00:01.0000001").to_timezone()
+
+    def test_what_to_call_instead(self):
+        """The message for a record without a time or a date names the method that converts the other part."""
+        for record, message in ((ixdtf.parse("2024-03-02"), "the record has no time. record.date.to_date() returns its date."),
+                                (ixdtf.parse_time("T12"), "the record has no date. record.time.to_time() returns its time."), (Record(), "the record has no date")):
+            with self.assertRaises(ValueError) as caught:
+                record.to_datetime()
+            self.assertEqual(str(caught.exception), message)
+
     def test_round_trips(self):
         for text in (self.FULL, "20240302 084800,250z[!etc/utc][u-ca=hebrew][a=b]", "+002024-02-29t23:59:60-05", "2024-03-02T08:48:00." + "123456789" * 3):
             printed = ixdtf.canonical(ixdtf.parse(text))
@@ -315,6 +398,26 @@ class Instants(unittest.TestCase):
             self.assertEqual(ixdtf.instant(ixdtf.parse(text)), Instant(seconds, nanoseconds))
         found = ixdtf.instant(ixdtf.parse("2024-03-02T00:00Z"))
         self.assertEqual((pickle.loads(pickle.dumps(found)), repr(found)), (found, "Instant(seconds=1709337600, nanoseconds=0)"))
+
+    def test_text_and_datetime(self):
+        """An instant as a text in UTC, and as a datetime."""
+        for text in ("2024-03-02T13:48:00.25Z", "1970-01-01T00:00:00Z", "1969-12-31T23:59:59.999999999Z", "0000-02-29T00:00:00Z", "0000-03-01T00:00:00Z", "1900-03-01T00:00:00Z",
+                     "2000-02-29T23:59:59Z", "-000001-12-31T00:00:00Z", "+275760-09-13T00:00:00Z", "-999999-01-01T00:00:00Z", "+999999-12-31T23:59:59.5Z"):
+            self.assertEqual(ixdtf.canonical(ixdtf.instant(ixdtf.parse(text))), text)
+        generator = random.Random(5)
+        for _ in range(2000):
+            moment = datetime.datetime(1, 1, 1, tzinfo=UTC) + datetime.timedelta(days=generator.randrange(3652059), microseconds=generator.randrange(86400 * 10**6))
+            found = ixdtf.instant(Record.from_datetime(moment))
+            self.assertEqual((found.to_datetime(), ixdtf.canonical(found)), (moment, ixdtf.canonical(moment)))
+        self.assertEqual(ixdtf.canonical(ixdtf.instant(ixdtf.parse("2024-03-02T08:48:00-05:00[America/New_York]"))), "2024-03-02T13:48:00Z")
+        before, after = ixdtf.instant(ixdtf.parse("-999999-01-01T00:00Z")).seconds - 1, ixdtf.instant(ixdtf.parse("+999999-12-31T23:59:59Z")).seconds + 1
+        for wrong in (Instant(2**63 - 1, 0), Instant(-(2**63), 0), Instant(2**63, 0), Instant(0, -1), Instant(0, 10**9), Instant(before, 999999999), Instant(after, 0)):
+            with self.assertRaises(ValueError):
+                ixdtf.canonical(wrong)
+        for wrong in (Instant(2**63 - 1, 0), Instant(-62135596801, 0), Instant(253402300800, 0), Instant(0, 1)):
+            with self.assertRaises(ValueError):
+                wrong.to_datetime()
+        self.assertEqual(Instant(0, 1999).to_datetime(truncate=True), datetime.datetime(1970, 1, 1, 0, 0, 0, 1, UTC))
 
     def test_beside_datetime(self):
         generator = random.Random(1)
@@ -372,8 +475,9 @@ class Durations(unittest.TestCase):
         for text in ("P1Y", "P1M", "PT0.0000001S", "PT0.333333333H", "PT0." + "1" * 19 + "S"):
             with self.assertRaises(ValueError):
                 ixdtf.parse_duration(text).to_timedelta()
-        with self.assertRaises(OverflowError):
-            ixdtf.parse_duration("P18446744073709551615D").to_timedelta()
+        for kind in (OverflowError, ValueError):
+            with self.assertRaises(kind):
+                ixdtf.parse_duration("P18446744073709551615D").to_timedelta()
 
 
 class Handlers(unittest.TestCase):
@@ -384,6 +488,34 @@ class Handlers(unittest.TestCase):
         record = ixdtf.parse(self.TEXT, handler=lambda it: seen.append(it))
         self.assertEqual(seen, [Annotation("u-ca", "hebrew"), Annotation("x-note", "a-b", True), Annotation("u-ca", "iso8601")])
         self.assertEqual((record.calendar, record.zone.name), (None, "Europe/Paris"))
+
+    def test_annotations(self):
+        """The attribute annotations of a record has what a handler is called with, whatever the handler returns."""
+        for reader, text in ((ixdtf.parse, "2024-03-02T08:48Z[UTC][u-ca=hebrew][x-note=a-b][u-ca=iso8601]"), (ixdtf.parse_time, "T12[a=b]"), (ixdtf.parse_year_month, "2020-11[a=b]"),
+                             (ixdtf.parse_month_day, "11-07[UTC][!u-ca=hebrew][_=0]"), (ixdtf.parse_rfc9557, "2024-03-02T08:48:00Z[!UTC][a=b]"), (ixdtf.parse, "2024-03-02")):
+            seen = []
+            reader(text, handler=lambda it: seen.append(it))
+            for form in (text, text.encode(), bytearray(text.encode())):
+                record = reader(form)
+                self.assertEqual(record.annotations, tuple(seen))
+                self.assertIs(record.annotations, record.annotations)
+                for again in (reader(text, handler=lambda it: None), reader(text, handler=lambda it: it), reader(text, handler=lambda it: REPLY)):
+                    self.assertEqual(again.annotations, tuple(seen))
+        self.assertEqual(ixdtf.parse(self.TEXT, handler=lambda it: None).annotations, (Annotation("u-ca", "hebrew"), Annotation("x-note", "a-b", True), Annotation("u-ca", "iso8601")))
+        self.assertEqual([ixdtf.parse_time("1200[a=b]", strict=True).annotations, ixdtf.parse_month_day("11-07[a=b]", strict=True).annotations], [(Annotation("a", "b"),)] * 2)
+        for record in (Record(Date(2024, 3, 2)), ixdtf.parse_rfc3339("2024-03-02T08:48:00Z"), Record.from_datetime(datetime.datetime(2024, 3, 2))):
+            self.assertEqual(record.annotations, ())
+
+    def test_annotations_are_kept(self):
+        """pickle and copy keep the annotations. They do not matter if two records are compared, and canonical() does not write them."""
+        record = ixdtf.parse("2024-03-02[u-ca=hebrew][x-note=a][y=b]")
+        for again in (pickle.loads(pickle.dumps(record)), copy.copy(record), copy.deepcopy(record), pickle.loads(pickle.dumps(pickle.loads(pickle.dumps(record))))):
+            self.assertEqual((again, again.annotations), (record, (Annotation("u-ca", "hebrew"), Annotation("x-note", "a"), Annotation("y", "b"))))
+        bare = ixdtf.parse("2024-03-02[u-ca=hebrew]")
+        self.assertEqual((record, hash(record), str(record), repr(record)), (bare, hash(bare), str(bare), repr(bare)))
+        for wrong in ([], None, (1,), (("a", "b", False),), (Annotation("a", 1),), (Annotation("a", "b", 1),), (Annotation("a", record),)):
+            with self.assertRaises(TypeError):
+                ixdtf._reader._restore((None,) * 5, wrong)
 
     def test_replies(self):
         kept = ixdtf.parse(self.TEXT, handler=lambda it: None if it.key == "x-note" else it)
@@ -462,6 +594,24 @@ class Datetimes(unittest.TestCase):
                 ixdtf.parse(f"2024-07-01T00:00[{name}]").to_datetime()
         with self.assertRaises(zoneinfo.ZoneInfoNotFoundError):
             Record(Date(2024, 7, 1), Time(0, 0, 0), None, Zone("")).to_datetime()
+        for kind in (ValueError, KeyError, ixdtf.ZoneNotFoundError):
+            with self.assertRaises(kind) as caught:
+                ixdtf.parse("2024-07-01T00:00[No/Where]").to_datetime()
+            error = caught.exception
+            again = pickle.loads(pickle.dumps(error))
+            self.assertEqual((error.zone, str(error), type(again), type(error).__name__), ("No/Where", str(again), type(error), "ZoneNotFoundError"))
+            self.assertIn("'No/Where' is unknown", str(error))
+
+    def test_zones_are_kept(self):
+        """The tzinfo is the object that ZoneInfo returns, also after its cache is cleared, and if more zones are used than ZoneInfo keeps."""
+        names = sorted(zoneinfo.available_timezones())[:30]
+        zones = [ixdtf.parse(f"2024-07-01T00:00[{name}]").to_datetime().tzinfo for name in names]
+        for name, zone in zip(names, zones):
+            self.assertIs(zoneinfo.ZoneInfo(name), zone)
+        zoneinfo.ZoneInfo.clear_cache()
+        found = ixdtf.parse(f"2024-07-01T00:00[{names[0]}]").to_datetime().tzinfo
+        self.assertIsNot(found, zones[0])
+        self.assertIs(found, zoneinfo.ZoneInfo(names[0]))
 
     def test_first_and_last_year(self):
         for text in ("9999-12-31T23:59:59-05:00[America/New_York]", "9999-12-31T23:59:59-05:00[-05:00]", "0001-01-01T00:00:00+00:09:21[Europe/Paris]",
@@ -491,12 +641,84 @@ class Datetimes(unittest.TestCase):
         with self.assertRaises(ixdtf.ZoneConflictError):
             gap.to_datetime()
         self.assertEqual(gap.to_datetime("offset").isoformat(), "2024-03-10T03:30:00-04:00")
+        self.assertEqual(gap.to_datetime("zone", True).isoformat(), "2024-03-10T02:30:00-05:00")
+
+    def test_from_datetime(self):
+        berlin, utc = zoneinfo.ZoneInfo("Europe/Berlin"), zoneinfo.ZoneInfo("UTC")
+        moment = datetime.datetime(2024, 3, 2, 8, 48, 0, 250000)
+        for value, text in (
+            (moment, "2024-03-02T08:48:00.25"),
+            (moment.replace(microsecond=0, tzinfo=UTC), "2024-03-02T08:48:00Z"),
+            (moment.replace(microsecond=1, tzinfo=berlin), "2024-03-02T08:48:00.000001+01:00[Europe/Berlin]"),
+            (moment.replace(tzinfo=utc), "2024-03-02T08:48:00.25+00:00[UTC]"),
+            (moment.replace(tzinfo=datetime.timezone(-datetime.timedelta(hours=5, minutes=30))), "2024-03-02T08:48:00.25-05:30"),
+            (moment.replace(tzinfo=datetime.timezone(datetime.timedelta(seconds=1, microseconds=5))), "2024-03-02T08:48:00.25+00:00:01.000005"),
+            (datetime.datetime(2024, 10, 27, 2, 30, tzinfo=berlin), "2024-10-27T02:30:00+02:00[Europe/Berlin]"),
+            (datetime.datetime(2024, 10, 27, 2, 30, tzinfo=berlin, fold=1), "2024-10-27T02:30:00+01:00[Europe/Berlin]"),
+            (datetime.datetime(1, 1, 1, tzinfo=berlin), "0001-01-01T00:00:00+00:53[Europe/Berlin]"),
+            (datetime.datetime(9999, 12, 31, tzinfo=berlin), "9999-12-31T00:00:00+01:00[Europe/Berlin]"),
+        ):
+            record = Record.from_datetime(value)
+            self.assertEqual((str(record), ixdtf.canonical(value), ixdtf.parse(text)), (text, text, record))
+            found = record.to_datetime()
+            self.assertEqual((found, found.fold, found.utcoffset()), (value, value.fold, value.utcoffset()))
+        digits = [str(Record.from_datetime(moment, digits=it))[19:] for it in (None, 0, 1, 3, 9)]
+        self.assertEqual(digits, [".25", "", ".2", ".250", ".250000000"])
+        with self.assertRaisesRegex(ixdtf.ZoneConflictError, "does not exist"):
+            ixdtf.canonical(datetime.datetime(2024, 3, 31, 2, 30, tzinfo=berlin))
+        for wrong in (-1, 10):
+            with self.assertRaises(ValueError):
+                Record.from_datetime(moment, digits=wrong)
+        for wrong in (moment.date(), "2024-03-02", None):
+            with self.assertRaises(TypeError):
+                Record.from_datetime(wrong)
+
+    def test_from_datetime_of_others(self):
+        """A tzinfo of another package, and a datetime of a subclass with nanoseconds."""
+
+        class Other(datetime.tzinfo):
+            zone = "Area/Other"
+            offset = datetime.timedelta(hours=1)
+
+            def utcoffset(self, moment):
+                return self.offset
+
+        class Moment(datetime.datetime):
+            nanosecond = 789
+
+        other = Other()
+        self.assertEqual(ixdtf.canonical(Moment(2024, 3, 2, 0, 0, 0, 123456, other)), "2024-03-02T00:00:00.123456789+01:00[Area/Other]")
+        other.key = "Area/Key"
+        self.assertEqual(ixdtf.canonical(datetime.datetime(2024, 3, 2, tzinfo=other)), "2024-03-02T00:00:00+01:00[Area/Key]")
+        other.key = other.zone = None
+        self.assertEqual(ixdtf.canonical(datetime.datetime(2024, 3, 2, tzinfo=other)), "2024-03-02T00:00:00+01:00")
+        other.key, other.offset = "Area/Other", None
+        self.assertEqual(ixdtf.canonical(datetime.datetime(2024, 3, 2, tzinfo=other)), "2024-03-02T00:00:00")
+        other.offset, other.key = datetime.timedelta(hours=1), "no name"
+        with self.assertRaises(ValueError):
+            ixdtf.canonical(datetime.datetime(2024, 3, 2, tzinfo=other))
+
+    def test_conflict_messages(self):
+        for text, message, offsets in (
+            ("2024-03-31T02:30:00+01:00[Europe/Berlin]", "02:30:00 does not exist in Europe/Berlin on 2024-03-31: the clocks were set forward over it, from the offset +01:00 to +02:00", ()),
+            ("2024-10-27T02:30:00+05:00[Europe/Berlin]", "the offset +05:00 is not that of Europe/Berlin at 2024-10-27 02:30:00, which has +02:00 or +01:00", (2, 1)),
+            ("2024-07-01T00:00:00+01:00[Europe/Berlin]", "the offset +01:00 is not that of Europe/Berlin at 2024-07-01 00:00:00, which has +02:00", (2,)),
+            ("2024-07-01T00:00:00+01:00[+02:00]", "the offset +01:00 is not that of UTC+02:00 at 2024-07-01 00:00:00, which has +02:00", (2,)),
+        ):
+            with self.assertRaises(ixdtf.ZoneConflictError) as caught:
+                ixdtf.parse(text).to_datetime()
+            error = pickle.loads(pickle.dumps(caught.exception))
+            self.assertEqual((str(error), error.offsets), (message, tuple(datetime.timedelta(hours=it) for it in offsets)))
+            self.assertEqual(error.local, datetime.datetime.fromisoformat(text[:19]))
 
     def test_offset_rounded_to_minutes(self):
         text = "1970-01-01T00:00:00-00:45[Africa/Monrovia]"
         self.assertEqual(ixdtf.parse(text).to_datetime().utcoffset(), -datetime.timedelta(minutes=44, seconds=30))
         with self.assertRaises(ixdtf.ZoneConflictError):
             ixdtf.parse("1970-01-01T00:00:00-00:44:29[Africa/Monrovia]").to_datetime()
+        # This local time occurs twice, with the offsets -06:59:56 and -07:00. An offset that is exactly the one of the text is preferred.
+        found = ixdtf.parse("1883-11-18T12:00:01-07:00[America/Denver]").to_datetime()
+        self.assertEqual((found.fold, found.utcoffset()), (1, -datetime.timedelta(hours=7)))
 
     ZONES = ("Africa/Cairo", "Africa/Casablanca", "America/New_York", "America/Sao_Paulo", "America/St_Johns", "America/Caracas", "Antarctica/Troll",
              "Asia/Kathmandu", "Asia/Pyongyang", "Asia/Tehran", "Asia/Tokyo", "Australia/Lord_Howe", "Europe/Berlin", "Europe/Dublin", "Europe/London",
@@ -519,6 +741,7 @@ class Datetimes(unittest.TestCase):
         text = f"{local.isoformat()}[{name}]"
         found = ixdtf.parse(text).to_datetime()
         self.assertEqual((found.astimezone(UTC), found.fold, found.tzinfo), (local.astimezone(UTC), local.fold, local.tzinfo), text)
+        self.assertEqual(found.utcoffset(), ixdtf.parse(ixdtf.canonical(local)).to_datetime().utcoffset(), text)
         wrong = local.replace(tzinfo=datetime.timezone(local.utcoffset() + datetime.timedelta(hours=3, minutes=7)))
         record = ixdtf.parse(f"{wrong.isoformat()}[{name}]")
         with self.assertRaises(ixdtf.ZoneConflictError):
@@ -668,6 +891,311 @@ class Calls(unittest.TestCase):
         for strict, end in ((False, 4), (True, 5)):
             error = refusal(ixdtf.parse_time, "1200-" if strict else "1200", strict=strict, handler=lambda it: it)
             self.assertEqual(error.end, end)
+
+
+class ManyTexts(unittest.TestCase):
+    """instants() and is_valid_many() give for each text what instant() and is_valid() give."""
+
+    UNITS = {"ns": 10**9, "us": 10**6, "ms": 1000, "s": 1}
+    NONE = -(2**63)
+
+    @staticmethod
+    def some_texts(number):
+        generator = random.Random(number)
+        letters = "0123456789-+:.TZ[]zt "
+        for _ in range(number):
+            text = f"{generator.choice(('2024', '1969', '-000001', '+275760', '1677', '2262', '0001', '9999'))}-{generator.randrange(1, 13):02}-{generator.randrange(1, 31):02}"
+            if generator.random() < 0.95:
+                text += f"T{generator.randrange(24):02}:{generator.randrange(60):02}:{generator.randrange(61):02}"
+                text += generator.choice(("", ".5", ".123456789", ".1234567891", ",000000001")) + generator.choice(("Z", "z", "+05:30", "-00:00", "-23:59:59.5", "", "+01[Europe/Paris]"))
+            if generator.random() < 0.1:
+                place = generator.randrange(len(text) + 1)
+                text = text[:place] + generator.choice(letters) + text[place + generator.randrange(2):]
+            yield text
+
+    def one(self, text, unit="ns", kind="date-time"):
+        try:
+            seconds, nanoseconds = ixdtf.instant(getattr(ixdtf, {"date-time": "parse"}.get(kind, "parse_" + kind))(text))
+        except ValueError:
+            return self.NONE
+        number = (seconds * 10**9 + nanoseconds) * self.UNITS[unit] // 10**9
+        return number if self.NONE < number < 2**63 else self.NONE
+
+    def check(self, found, expected):
+        self.assertEqual((type(found.values), found.values.typecode, found.values.itemsize, found.missing.format), (array.array, "q", 8, "?"))
+        self.assertEqual(list(found.values), expected)
+        self.assertEqual(found.missing.tolist(), [it == self.NONE for it in expected])
+
+    def test_beside_one_text(self):
+        texts = list(self.some_texts(3000))
+        for kind in ("date-time", "rfc3339", "rfc9557"):
+            for unit in self.UNITS:
+                expected = [self.one(text, unit, kind) for text in texts]
+                self.check(ixdtf.instants(texts, kind, errors="coerce", unit=unit), expected)
+                self.assertTrue(0 < expected.count(self.NONE) < len(texts))
+                if unit == "ns":
+                    good = [text for text, it in zip(texts, expected) if it != self.NONE]
+                    self.check(ixdtf.instants(good, kind), [it for it in expected if it != self.NONE])
+        for kind, text in (("year-month", "2020-11"), ("month-day", "11-00"), ("time", "1200"), ("offset", "+05:30"), ("zone", "+05:30"), ("zone-name", "UTC"), ("duration", "P1Y2Y")):
+            for strict in (False, True):
+                some = [text, text + "?", "", *texts[:100]]
+                self.assertEqual(ixdtf.is_valid_many(some, kind, strict=strict).tolist(), [ixdtf.is_valid(it, kind, strict=strict) for it in some])
+        self.assertEqual(ixdtf.is_valid_many(texts).tolist(), [ixdtf.is_valid(it) for it in texts])
+
+    def test_forms(self):
+        """The forms of many texts: each form of the same texts gives the same answer. The number of texts is below and above the number without the GIL."""
+        for number in (0, 1, 2, 63, 64, 1000, 20000):
+            texts = [it for it in self.some_texts(min(number, 1000)) if it.isascii()] * (max(1, number // 1000))
+            encoded = [it.encode() for it in texts]
+            expected, valid = [self.one(it) for it in texts[:1000]] * (len(texts) // 1000 or 1), ixdtf.is_valid_many(texts).tolist()
+            lines, joined = b"\n".join(encoded), b"".join(encoded)
+            places = [0]
+            for it in encoded:
+                places.append(places[-1] + len(it))
+            forms = [texts, tuple(texts), iter(texts), (it for it in texts), encoded, [bytearray(it) for it in encoded], [memoryview(it) for it in encoded], dict.fromkeys(texts).keys() if len(set(texts)) == len(texts) else texts]
+            if "" not in texts[-1:]:
+                forms += [lines, lines + b"\n" * len(lines[:1]), lines.replace(b"\n", b"\r\n"), lines.decode(), bytearray(lines), memoryview(lines), array.array("b", lines), memoryview(lines + b"xyz")[: len(lines)]]
+            for form in forms:
+                self.check(ixdtf.instants(form, errors="coerce"), expected)
+            for form in (texts, lines, bytearray(lines)):
+                self.assertEqual(ixdtf.is_valid_many(form).tolist(), valid)
+            for code in "iqLQ":
+                for data in (joined, bytearray(joined)):
+                    self.check(ixdtf.instants(data, errors="coerce", offsets=array.array(code, places)), expected)
+            self.assertEqual(ixdtf.is_valid_many(joined, offsets=array.array("i", places)).tolist(), valid)
+
+    def test_lines(self):
+        for lines, count in ((b"", 0), (b"\n", 1), (b"\n\n", 2), (b"x", 1), (b"x\n", 1), (b"\r\n", 1), (b"\n" * 1000, 1000), (b"a" * 1000 + b"\n", 1), ("\u20ac\n2024-03-02", 2)):
+            self.assertEqual(len(ixdtf.is_valid_many(lines)), count)
+        for length in range(230, 260):
+            self.assertEqual(len(ixdtf.is_valid_many(b"a" * length + b"\n" + b"b" * (500 - length))), 2)
+        self.assertEqual(ixdtf.is_valid_many("\u20ac\n2024-03-02").tolist(), [False, True])
+        self.assertEqual(ixdtf.is_valid_many(b"2024-03-02\r\n2024-03-02\r\r\n2024-03-02\r").tolist(), [True, False, True])
+        long = b"2024-03-02[" + b"A" * 10000 + b"]"
+        self.assertEqual(ixdtf.is_valid_many(bytearray(b"\n".join([long, long[:-1], long * 2, long]))).tolist(), [True, False, False, True])
+
+    def test_texts_that_are_none(self):
+        texts = ["2024-03-02T00:00Z", None, float("nan"), "\u20ac", b"\xff"]
+        self.assertEqual(ixdtf.is_valid_many(texts).tolist(), [True, False, False, False, False])
+        self.assertEqual(ixdtf.instants(texts, errors="coerce").missing.tolist(), [False, True, True, True, True])
+        for wrong in (None, 5, 1.5, ["2024-03-02"]):
+            with self.assertRaises(TypeError) as caught:
+                ixdtf.instants(["2024-03-02T00:00Z", wrong])
+            self.assertEqual(caught.exception.index, 1)
+
+    def test_errors(self):
+        good = "2024-03-02T00:00Z"
+        for wrong, error in (("2024-13-02", IxdtfError), ("\u20ac", IxdtfError), (b"", IxdtfError), ("2024-03-02", ValueError), ("2024-03-02T00:00[UTC]", ValueError), ("2263-01-01T00:00Z", ValueError)):
+            for number in (0, 5, 100):
+                for texts in ([good] * number + [wrong, good], "\n".join([good] * number + [wrong if isinstance(wrong, str) else "", good])):
+                    with self.assertRaises(error) as caught:
+                        ixdtf.instants(texts)
+                    self.assertEqual(caught.exception.index, number)
+                    if error is IxdtfError:
+                        alone = refusal(ixdtf.parse, caught.exception.text)
+                        self.assertEqual((str(caught.exception), alone.index), (str(alone), None))
+        self.assertEqual(list(ixdtf.instants(["2263-01-01T00:00Z"], unit="us").values), [9246182400000000])
+        for keywords in (dict(errors="ignore"), dict(unit="m"), dict(kind="time"), dict(kind="duration"), dict(kind="week"), dict(kind=5)):
+            with self.assertRaises(ValueError):
+                ixdtf.instants([good], **keywords)
+        for arguments, keywords in (((), {}), ((5,), {}), (([good], "date-time", "raise"), {}), (([good],), dict(offsets=array.array("i", [0]))), ((good,), dict(offsets=array.array("h", [0]))),
+                                    ((good,), dict(offsets=array.array("i"))), ((good,), dict(offsets=array.array("d", [0]))), ((array.array("i", [0]),), {}),
+                                    ((memoryview(b"2024").cast("B", (2, 2)),), {}), ((memoryview(b"2024")[::2],), {})):
+            with self.assertRaises(TypeError):
+                ixdtf.instants(*arguments, **keywords)
+        for wrong in ([0, len(good) + 1], [5, 4], [-1, 3], [0, 3, 2]):
+            with self.assertRaises(ValueError):
+                ixdtf.is_valid_many(good, offsets=array.array("i", wrong))
+
+    def test_other_missing_texts(self):
+        """An object that is not equal to itself is a missing text, as NaT of pandas, and an object of a class with the name NAType."""
+
+        class NaT:
+            def __ne__(self, other):
+                return True
+
+        class NAType:
+            def __ne__(self, other):
+                return self
+
+            def __bool__(self):
+                raise TypeError
+
+        class Broken:
+            def __ne__(self, other):
+                raise ZeroDivisionError
+
+        texts = ["2024-03-02T00:00Z", NaT(), NAType()]
+        self.assertEqual(ixdtf.instants(texts, errors="coerce").missing.tolist(), [False, True, True])
+        self.assertEqual(ixdtf.is_valid_many(texts).tolist(), [True, False, False])
+        for wrong in (5, Broken(), object(), Ellipsis):
+            with self.assertRaises(TypeError) as caught:
+                ixdtf.instants([*texts, wrong], errors="coerce")
+            self.assertEqual(caught.exception.index, 3)
+
+    def test_pickled(self):
+        """The functions and an Instants can be sent to another process."""
+        found = ixdtf.instants(["2024-03-02T00:00Z", None], errors="coerce")
+        for again in (pickle.loads(pickle.dumps(found)), copy.copy(found), copy.deepcopy(found)):
+            self.assertEqual((type(again), again), (ixdtf.Instants, found))
+            self.assertEqual(again.missing.format, "?")
+        for function in (ixdtf.instants, ixdtf.is_valid_many, ixdtf.parse):
+            self.assertIs(pickle.loads(pickle.dumps(function)), function)
+
+    @unittest.skipIf(numpy is None, "NumPy is not installed")
+    def test_numpy(self):
+        """NumPy uses the memory of the results, and its arrays of texts are read."""
+        texts = ["2024-03-02T00:00:00Z", "1969-12-31T23:59:59.5Z", "2024-03-02T00:00:00+01:00"]
+        expected = [1709337600 * 10**9, -(10**9) // 2, 1709334000 * 10**9]
+        objects = numpy.array(texts, object)
+        for form in (objects, numpy.array(texts), numpy.array(texts, "S"), numpy.array(texts, "S")[::-1][::-1], numpy.frombuffer("\n".join(texts).encode(), numpy.uint8)):
+            found = ixdtf.instants(form)
+            self.assertEqual(list(found.values), expected)
+            values, missing = numpy.asarray(found.values), numpy.asarray(found.missing)
+            self.assertEqual((values.dtype, missing.dtype, values.ctypes.data), (numpy.dtype("int64"), numpy.dtype("bool"), found.values.buffer_info()[0]))
+        self.assertEqual([str(it) for it in values.view("datetime64[ns]")], ["2024-03-02T00:00:00.000000000", "1969-12-31T23:59:59.500000000", "2024-03-01T23:00:00.000000000"])
+        places = numpy.cumsum([0, *map(len, texts)], dtype=numpy.int32)
+        self.assertEqual(list(ixdtf.instants("".join(texts), offsets=places).values), expected)
+        some = numpy.array([texts[0], numpy.nan, numpy.float64("nan"), numpy.datetime64("NaT"), None], object)
+        coerced = ixdtf.instants(some, errors="coerce")
+        self.assertEqual(numpy.isnat(numpy.asarray(coerced.values).view("datetime64[ns]")).tolist(), [False, True, True, True, True])
+        for wrong in (numpy.array([[texts[0]]], "S"), numpy.array([1.5]), numpy.array([1, 2], ">i8"), numpy.zeros((2, 3), numpy.uint8)):
+            with self.assertRaises(TypeError):
+                ixdtf.instants(wrong)
+        with self.assertRaises(TypeError):
+            ixdtf.instants("".join(texts), offsets=places.astype(">i4"))
+
+    @unittest.skipIf(pandas is None, "pandas is not installed")
+    def test_pandas(self):
+        texts = ["2024-03-02T00:00:00Z", None, "2024-03-02T00:00:00+01:00", "2024-02-30"]
+        expected = pandas.to_datetime([texts[0], None, texts[2], None], utc=True)
+        for form in (pandas.Series(texts), pandas.Series(texts, dtype="string"), pandas.Index(texts), pandas.Series([*texts[:1], pandas.NaT, *texts[2:]])):
+            values, missing = ixdtf.instants(form, errors="coerce")
+            index = pandas.DatetimeIndex(numpy.asarray(values).view("M8[ns]"), tz="UTC")
+            self.assertTrue(index.equals(expected))
+            self.assertEqual(missing.tolist(), expected.isna().tolist())
+            self.assertEqual(ixdtf.is_valid_many(form).tolist(), [True, False, True, False])
+        self.assertEqual(ixdtf.canonical(pandas.Timestamp("2024-03-02T08:48:00.123456789", tz="Europe/Berlin")), "2024-03-02T08:48:00.123456789+01:00[Europe/Berlin]")
+        with self.assertRaises(ValueError):
+            ixdtf.canonical(pandas.NaT)
+
+    def test_stopped(self):
+        """An exception of an iterator is passed on."""
+
+        def stops():
+            yield "2024-03-02T00:00Z"
+            raise ZeroDivisionError
+
+        with self.assertRaises(ZeroDivisionError):
+            ixdtf.instants(stops())
+
+    def test_threads(self):
+        texts = list(self.some_texts(1000)) * 20
+        lines = "\n".join(texts).encode()
+        expected, failed = ixdtf.instants(texts, errors="coerce").values, []
+
+        def work():
+            for _ in range(5):
+                for form in (texts, lines, bytearray(lines)):
+                    if ixdtf.instants(form, errors="coerce").values != expected:
+                        failed.append(1)
+
+        threads = [threading.Thread(target=work) for _ in range(4)]
+        for thread in threads:
+            thread.start()
+        for thread in threads:
+            thread.join()
+        self.assertEqual(failed, [])
+
+    def test_buffer_that_changes(self):
+        """Another thread writes to the buffer while it is read. Each text is read from a copy, and the buffer cannot get shorter."""
+        buffer = bytearray(b"2024-03-02T00:00:00Z\n" * 50_000)
+        done = threading.Event()
+
+        def change():
+            number = 0
+            while not done.is_set():
+                number = (number + 7) % len(buffer)
+                buffer[number] = 48 + number % 10
+                try:
+                    buffer.pop()
+                except BufferError:
+                    pass
+
+        thread = threading.Thread(target=change)
+        thread.start()
+        try:
+            for _ in range(10):
+                found = ixdtf.instants(buffer, errors="coerce")
+                self.assertEqual(len(found.values), len(found.missing))
+        finally:
+            done.set()
+            thread.join()
+
+
+class Fields(unittest.TestCase):
+    """The classes of the package as the types of fields of a dataclass and of a model of pydantic 2."""
+
+    def test_utc(self):
+        """Z is the only value of Utc. There is one Z, also after pickle and copy."""
+        self.assertEqual((list(ixdtf.Utc), repr(Z), str(Z), f"{Z}", Z.is_utc, type(Z)), ([Z], "Z", "Z", "Z", True, ixdtf.Utc))
+        for again in (pickle.loads(pickle.dumps(Z)), copy.copy(Z), copy.deepcopy(Z), pickle.loads(b"cixdtf\nZ\n.")):
+            self.assertIs(again, Z)
+
+    def test_dataclass(self):
+        @dataclasses.dataclass(frozen=True, order=False)
+        class Meeting:
+            start: Record = ixdtf.parse("2024-03-02T08:48")
+            length: Duration = Duration(1, hours=1, minutes=0)
+
+        meeting = Meeting()
+        self.assertEqual(dataclasses.replace(meeting, start=ixdtf.parse("20240302T0848")), meeting)
+        self.assertEqual(dataclasses.asdict(meeting)["start"], meeting.start)
+        self.assertEqual(hash(meeting), hash(copy.deepcopy(meeting)))
+
+    @unittest.skipIf(pydantic is None, "pydantic 2 is not installed")
+    def test_pydantic(self):
+        class Meeting(pydantic.BaseModel):
+            start: Record
+            length: Duration = Duration(1, hours=1)
+            zone: typing.Optional[Zone] = None
+            offset: typing.Union[Offset, ixdtf.Utc, None] = None
+            date: typing.Optional[Date] = None
+
+        given = {"start": "2024-03-02T08:48:00Z[UTC][x=y]", "length": "PT1H30M", "zone": "Europe/Berlin", "offset": "+05:30", "date": [2024, 3, 2]}
+        expected = Meeting(start=ixdtf.parse(given["start"]), length=ixdtf.parse_duration("PT1H30M"), zone=Zone("Europe/Berlin"), offset=Offset(1, 5, 30), date=Date(2024, 3, 2))
+        made = Meeting(**given)
+        self.assertEqual((made, Meeting.model_validate_json(json.dumps(given))), (expected, expected))
+        with warnings.catch_warnings():
+            warnings.simplefilter("error")
+            dumped = made.model_dump()
+        self.assertIs(dumped["start"], made.start)
+        self.assertEqual((Meeting(**dumped), Meeting(**dumped).start.annotations, dumped["length"]), (made, (Annotation("x", "y"),), "PT1H30M"))
+        self.assertEqual(json.loads(made.model_dump_json()), {**given, "start": "2024-03-02T08:48:00Z[UTC]"})
+        self.assertEqual(Meeting(start=b"2024-03-02T08:48Z", offset="Z").model_dump_json(), '{"start":"2024-03-02T08:48:00Z","length":"PT1H","zone":null,"offset":"Z","date":null}')
+        self.assertEqual(Meeting.model_json_schema()["properties"]["start"], {"title": "Start", "type": "string"})
+        self.assertEqual(Meeting.model_json_schema(mode="serialization")["properties"]["start"], {"title": "Start", "type": "string"})
+        self.assertEqual(json.loads(Meeting(start=ixdtf.parse_time("T12")).model_dump_json())["start"], "12:00:00")
+        for wrong, message in (("2024-13-02", "the month is 13, and has to be 01 to 12"), (5, "Input should be a valid string")):
+            with self.assertRaisesRegex(pydantic.ValidationError, message):
+                Meeting(start=wrong)
+        with self.assertRaises(pydantic.ValidationError):
+            Meeting.model_validate_json('{"start": 5}')
+
+        class Shop(pydantic.BaseModel):
+            opens: typing.Annotated[Record, pydantic.BeforeValidator(ixdtf.parse_time)]
+
+        shop = Shop(opens="T08")
+        self.assertEqual((shop, shop.model_dump_json()), (Shop.model_validate_json('{"opens": "08:00"}'), '{"opens":"08:00:00"}'))
+
+    @unittest.skipIf(pydantic is None, "pydantic 2 is not installed")
+    def test_pydantic_dataclass(self):
+        @pydantic.dataclasses.dataclass
+        class Meeting:
+            start: Record
+
+        self.assertEqual(Meeting("2024-03-02").start, ixdtf.parse("2024-03-02"))
+        self.assertEqual(pydantic.TypeAdapter(list[Record]).validate_python(["2024-03-02"]), [ixdtf.parse("2024-03-02")])
 
 
 class Runs(unittest.TestCase):

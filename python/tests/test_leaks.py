@@ -8,6 +8,7 @@ Before, each call is made some times without measuring, because some memory is k
 something has grown, so that memory that is kept only once does not count.
 
 If the environment variable IXDTF_WITHOUT_MEASURING is set, each call is made only twice, and nothing is measured. python/leaks sets it for valgrind."""
+import array
 import copy
 import datetime
 import gc
@@ -21,6 +22,7 @@ import tracemalloc
 import types
 import typing
 import unittest
+import zoneinfo
 
 import ixdtf
 import ixdtf._reader
@@ -189,12 +191,13 @@ class Leaks(unittest.TestCase):
             def __bool__(self):
                 raise ZeroDivisionError
 
-        released = memoryview(b"2024-03-02")
+        released, wide = memoryview(b"2024-03-02"), memoryview(b"2024-03-02").cast("H")
         released.release()
         for reader in READERS:
             self.none(reader)
             self.none(reader, 5)
             self.none(reader, released)
+            self.none(reader, wide)
             self.none(reader, "2024-03-02", "2024-03-02")
             self.none(reader, "2024-03-02", other=5)
             if reader in WITH_PROFILES:
@@ -284,6 +287,62 @@ class Leaks(unittest.TestCase):
         self.none(ixdtf.instant, ixdtf.parse_time("T12Z"))
         self.none(ixdtf.instant, FULL)
 
+    def test_annotations(self):
+        for text in (FULL, FULL.encode(), FULL + "[a=b]", "2024-03-02"):
+            self.none(lambda text: ixdtf.parse(text).annotations, text)
+            self.none(lambda text: ixdtf.parse(text, handler=lambda it: REPLY).annotations, text)
+        self.none(lambda: copy.deepcopy(ixdtf.parse(FULL)))
+        for wrong in ([], (1,), (Annotation("a", 1),)):
+            self.none(ixdtf._reader._restore, (None,) * 5, wrong)
+
+    def test_many_texts(self):
+        class Broken:
+            def __iter__(self):
+                yield FULL
+                raise ZeroDivisionError
+
+        many = [FULL, FULL.encode(), bytearray(FULL.encode()), "2024-03-02T08:48:00Z"] * 20
+        lines = "\n".join([FULL] * 80)
+        forms = [many, tuple(many), lines, lines.encode(), bytearray(lines.encode()), lines.replace("[", "\u20ac"), [], "", b"", many[:3], Broken(), [None], [FULL, None, 5], [FULL, "2024"],
+                 [FULL, "2024-03-02"], [FULL, "\u20ac"], [FULL, memoryview(b"2024").cast("B", (2, 2))], FULL + "\n2024", bytearray(b"2024\n" * 100), b"2263-01-01T00:00Z", 5,
+                 array.array("i", [1]), memoryview(b"2024")[::2], bytearray((FULL.replace("New", "N" * 1000) + "\n").encode() * 3)]
+        for form in forms:
+            self.none(ixdtf.instants, form)
+            self.none(ixdtf.instants, form, "rfc9557", errors="coerce", unit="us")
+            self.none(ixdtf.is_valid_many, form)
+            self.none(ixdtf.is_valid_many, form, kind="duration", strict=True)
+        for offsets in (array.array("i", [0, 20, 40]), array.array("q", [0, 50]), array.array("i"), array.array("h", [0]), 5):
+            for data in (b"2024-03-02T08:48:00Z" * 2, bytearray(b"2024-03-02T08:48:00Z" * 2), many):
+                self.none(ixdtf.instants, data, offsets=offsets)
+        self.none(ixdtf.instants, many, "time")
+        self.none(ixdtf.instants, many, errors="ignore")
+        self.none(ixdtf.instants, many, unit=5)
+
+    def test_from_datetimes(self):
+        berlin = zoneinfo.ZoneInfo("Europe/Berlin")
+
+        class Moment(datetime.datetime):
+            nanosecond = 1000
+
+        class Zone(datetime.tzinfo):
+            key = "no name"
+
+            def utcoffset(self, moment):
+                return 5 if moment.year == 1 else datetime.timedelta(hours=1)
+
+        moment = datetime.datetime(2024, 3, 31, 2, 30)
+        for value in (moment, moment.replace(tzinfo=datetime.timezone.utc), moment.replace(month=7, tzinfo=berlin), moment.replace(tzinfo=berlin), moment.replace(year=1890, tzinfo=berlin),
+                      moment.replace(tzinfo=datetime.timezone(datetime.timedelta(1, -5, 5))), Moment(2024, 3, 2), moment.replace(tzinfo=Zone()), moment.replace(year=1, tzinfo=Zone()), 5):
+            self.none(Record.from_datetime, value)
+            self.none(Record.from_datetime, value, digits=3)
+            self.none(Record.from_datetime, value, digits=10)
+            self.none(ixdtf.canonical, value)
+            self.none(lambda value: attempt(lambda: str(Record.from_datetime(value))), value)
+        for value in (ixdtf.Instant(0, 5), ixdtf.Instant(2**63 - 1, 0), ixdtf.Instant("0", 0)):
+            self.none(ixdtf.canonical, value)
+        for record in (Record(), ixdtf.parse_time("T12"), ixdtf.parse(FULL)):
+            self.none(str, record)
+
     def test_datetimes(self):
         texts = (FULL, "2024-03-02T08:48:00", "2024-03-02T08:48:00Z", "2024-03-02T08:48:00.25+01:00", "2024-03-02T08:48:00+00:00:00.5", "2024-03-02T08:48:60Z",
                  "2024-03-02T08:48:00.1234567", "2024-03-02", "+010000-01-01T00:00", "2024-11-03T01:30:00-05:00[America/New_York]",
@@ -315,7 +374,11 @@ class Leaks(unittest.TestCase):
         calls = [lambda: (record.date, record.time, record.offset, record.zone, record.calendar), lambda: hash(record), record.__reduce__,
                  lambda: Record(record.date, record.time, record.offset, record.zone, record.calendar), lambda: Record(other.date, other.time, seconds, other.zone),
                  record.to_datetime, ixdtf.parse("2024-03-02T08:48:00+02:00").to_datetime, ixdtf.parse("2024-03-02T08:48:00Z").to_datetime,
-                 lambda: other.to_datetime("zone", truncate=True), lambda: ixdtf.instant(record), lambda: ixdtf.instant(ixdtf.parse("2024-03-02"))]
+                 lambda: ixdtf.instants([FULL, FULL.encode(), bytearray(FULL.encode())]), lambda: ixdtf.instants(bytearray((FULL + "a" * 1000).encode()), errors="coerce"),
+                 lambda: ixdtf.is_valid_many(FULL.encode(), offsets=array.array("i", [0, 5])), lambda: ixdtf.instants([FULL, "2024"]), lambda: ixdtf.is_valid_many(iter([FULL])),
+                 lambda: Record.from_datetime(datetime.datetime(2024, 3, 2, tzinfo=zoneinfo.ZoneInfo("Europe/Berlin"))), lambda: str(record), lambda: str(ixdtf.parse_time("T12")),
+                 lambda: ixdtf.parse(FULL).annotations, ixdtf.parse(FULL).__reduce__, lambda: ixdtf._reader._restore(*ixdtf.parse(FULL).__reduce__()[1]), lambda: ixdtf.parse(FULL, handler=lambda it: it).annotations,
+                 lambda: ixdtf.canonical(ixdtf.Instant(0, 5)), lambda: ixdtf.instants([FULL, None, array], errors="coerce"), lambda: other.to_datetime("zone", truncate=True), lambda: ixdtf.instant(record), lambda: ixdtf.instant(ixdtf.parse("2024-03-02"))]
         calls += [lambda it=it: ixdtf.canonical(it) for it in (record, other, duration, seconds, record.zone, other.zone, Zone("A" * 1000),
                                                                ixdtf.parse("2024-03-02[Area/" + "a" * 1000 + "]"), Duration(), Zone(5), Offset(1, 1, 60))]
         for reader, (kind, accepted, refused) in READERS.items():

@@ -19,22 +19,27 @@ If a text is refused, IxdtfError is raised. It has a message, and the part of th
          ^^
 
 These functions read a text: parse, parse_year_month, parse_month_day, parse_time, parse_rfc3339, parse_rfc9557, parse_offset, parse_zone,
-parse_zone_name and parse_duration. Three functions do something else:
+parse_zone_name and parse_duration. Five functions do something else:
 
     is_valid(text, kind)     says whether a text is accepted
+    is_valid_many(texts)     says this for each of many texts
+    instants(texts)          returns the times of many texts, as an array of numbers
     canonical(value)         returns the canonical text of a record, a duration, an offset or a zone
     instant(record)          returns the time from the beginning of 1970 (UTC) to the time of a record
 
 Record.to_datetime() makes a datetime, and Duration.to_timedelta() a timedelta. The page docs/PYTHON.md of the repository describes all of
 these.
 """
-from ixdtf._datetimes import ZoneConflictError
+from ixdtf._datetimes import ZoneConflictError, ZoneNotFoundError
 from ixdtf._errors import IxdtfError
+from ixdtf._pydantic import core_schema, json_schema
 from ixdtf._reader import (
     Record,
     canonical,
     instant,
+    instants,
     is_valid,
+    is_valid_many,
     parse,
     parse_duration,
     parse_month_day,
@@ -46,24 +51,38 @@ from ixdtf._reader import (
     parse_zone,
     parse_zone_name,
 )
-from ixdtf._records import Annotation, Date, Duration, Fraction, Instant, Offset, Time, Z, Zone
+from ixdtf._records import Annotation, Date, Duration, DurationTooLongError, Fraction, Instant, Instants, Offset, Time, Utc, Z, Zone
+
+# With these methods, pydantic 2 accepts these classes as the types of fields.
+for _kind in (Record, Duration, Offset, Zone):
+    setattr(_kind, "__get_pydantic_core_schema__", classmethod(core_schema))
+    setattr(_kind, "__get_pydantic_json_schema__", classmethod(json_schema))
+
+# The version of the package. pyproject.toml reads it from here.
+__version__ = "0.6.7"
 
 __all__ = [
     "Annotation",
     "Date",
     "Duration",
+    "DurationTooLongError",
     "Fraction",
     "Instant",
+    "Instants",
     "IxdtfError",
     "Offset",
     "Record",
     "Time",
+    "Utc",
     "Z",
     "Zone",
     "ZoneConflictError",
+    "ZoneNotFoundError",
     "canonical",
     "instant",
+    "instants",
     "is_valid",
+    "is_valid_many",
     "parse",
     "parse_duration",
     "parse_month_day",

@@ -2,9 +2,9 @@
 from __future__ import annotations
 
 import datetime as _datetime
-from typing import TYPE_CHECKING, Optional, Union
+from typing import TYPE_CHECKING, NoReturn, Optional, Union
 
-from ixdtf._records import Fraction, Offset, Zone, _Utc
+from ixdtf._records import Date, Offset, Time, Utc, Zone, _microsecond
 
 if TYPE_CHECKING:
     from ixdtf._reader import Record
@@ -14,9 +14,55 @@ class ZoneConflictError(ValueError):
     """Raised by to_datetime if on_conflict is "error", and the offset and the zone of a record do not agree (RFC 9557, section 3.4).
 
     They do not agree if the zone has another offset at this time, or if the local time does not exist in the zone. If the record has
-    its offset in hours and minutes, the offset of the zone is first rounded to minutes."""
+    its offset in hours and minutes, the offset of the zone is first rounded to minutes. It has these attributes:
+
+    zone     the name of the zone, or its offset
+    local    the local time, as a datetime without a tzinfo
+    offsets  the offsets that the zone has at this time: a tuple of one or two timedeltas. It is empty if the local time does not exist."""
 
     __module__ = "ixdtf"
+    zone: str = ""
+    local: Optional[_datetime.datetime] = None
+    offsets: tuple[_datetime.timedelta, ...] = ()
+
+
+class ZoneNotFoundError(ValueError, KeyError):
+    """Raised by to_datetime if the time zone database of this system does not have the zone. The attribute `zone` is the name of the zone.
+
+    It is a ValueError, like each exception that a text can cause. What to_datetime raises is also a ZoneInfoNotFoundError of zoneinfo."""
+
+    __module__ = "ixdtf"
+
+    def __init__(self, zone: str) -> None:
+        super().__init__(zone)
+        self.zone = zone
+
+    def __str__(self) -> str:
+        return f"the time zone {self.zone[:80]!r} is unknown: the time zone database of this system (zoneinfo.TZPATH, or the package tzdata) does not have it"
+
+
+def _conflict(message: str, zone: object, local: _datetime.datetime, offsets: tuple[_datetime.timedelta, ...]) -> ZoneConflictError:
+    error = ZoneConflictError(message)
+    error.zone, error.local, error.offsets = str(zone), local, offsets
+    return error
+
+
+def raise_gap(local: _datetime.datetime, zone: object) -> NoReturn:
+    """Raises the error of a local time that does not exist. `local` has the tzinfo of the zone, and `zone` is the zone or its name."""
+    before, after = (_delta_text(_offset_at(local.replace(fold=fold))) for fold in (0, 1))
+    naive = local.replace(tzinfo=None, fold=0)
+    message = f"{naive.time()} does not exist in {zone} on {naive.date()}: the clocks were set forward over it, from the offset {before} to {after}"
+    raise _conflict(message, zone, naive, ())
+
+
+def _raise_conflict(local: _datetime.datetime, offset: Offset, zone: _datetime.tzinfo) -> NoReturn:
+    """Raises the error of a local time at which the zone does not have the offset. `local` has no tzinfo."""
+    first, second = (_offset_at(local.replace(tzinfo=zone, fold=fold)) for fold in (0, 1))
+    if first < second:  # By PEP 495, only if the clocks were set forward over the local time.
+        raise_gap(local.replace(tzinfo=zone), zone)
+    offsets = (first,) if first == second else (first, second)
+    known = " or ".join(map(_delta_text, offsets))
+    raise _conflict(f"the offset {_offset_text(offset)} is not that of {zone} at {local}, which has {known}", zone, local, offsets)
 
 
 def to_datetime(record: Record, on_conflict: str = "error", truncate: bool = False) -> _datetime.datetime:
@@ -31,7 +77,7 @@ def to_datetime(record: Record, on_conflict: str = "error", truncate: bool = Fal
     if record.offset is None:
         return local.replace(tzinfo=zone)
     known = local.replace(tzinfo=_fixed(record.offset, truncate))
-    if isinstance(record.offset, _Utc) or _is_negative_zero(record.offset):
+    if isinstance(record.offset, Utc) or _is_negative_zero(record.offset):
         return _moved(known, zone)
     return _agreed(known, record.offset, zone, on_conflict)
 
@@ -40,50 +86,32 @@ def _local(record: Record, truncate: bool) -> _datetime.datetime:
     """Returns the local time of a record, without a tzinfo. Raises ValueError if a datetime cannot hold it."""
     date, time = record.date, record.time
     if date is None or time is None:
-        raise ValueError(f"the record has no {'date' if date is None else 'time'}")
-    if not 1 <= date.year <= 9999:
-        raise ValueError(f"the year of a datetime is 1 to 9999, but the year of the record is {date.year}")
-    if date.day == 0:
-        raise ValueError("the day of a datetime is at least 1, but the day of the record is 0")
-    if time.second == 60 and not truncate:
-        raise ValueError("the second of a datetime is at most 59, but the second of the record is 60. With truncate=True, it becomes 59.")
-    return _datetime.datetime(date.year, date.month, date.day, time.hour, time.minute, min(time.second, 59), _microsecond(time.fraction, truncate))
+        raise ValueError(_missing(date, time))
+    return _datetime.datetime.combine(date.to_date(), time.to_time(truncate))
 
 
-def _microsecond(fraction: Optional[Fraction], truncate: bool) -> int:
-    """Returns the microseconds of a fraction of a second. If `truncate` is true, drops the digits after the sixth. Otherwise raises ValueError if the
-    number of microseconds is not whole, or if the fraction has more than 18 digits. Raises ValueError if its value has more digits than its field `digits`
-    says. No text gives such a fraction."""
-    if fraction is None:
-        return 0
-    known = min(fraction.digits, 18)
-    if fraction.value >= 10**known:
-        raise ValueError("the value of a fraction of the record has more digits than its field digits says")
-    whole, rest = divmod(fraction.value * 10**6, 10**known)
-    if (rest or fraction.digits > 18) and not truncate:
-        raise ValueError("the fraction of the record does not fit into the six digits of a datetime. With truncate=True, further digits are dropped.")
-    return int(whole)
+def _missing(date: Optional[Date], time: Optional[Time]) -> str:
+    """Returns a message that says which part is missing, and how the other one is converted."""
+    if date is None:
+        return "the record has no date" + ("" if time is None else ". record.time.to_time() returns its time.")
+    return "the record has no time. record.date.to_date() returns its date."
 
 
-def _fixed(offset: Union[Offset, _Utc], truncate: bool) -> _datetime.timezone:
+def _fixed(offset: Union[Offset, Utc], truncate: bool) -> _datetime.timezone:
     """Returns the tzinfo of an offset."""
-    if isinstance(offset, _Utc):
+    if isinstance(offset, Utc):
         return _datetime.timezone.utc
     seconds = offset.hour * 3600 + offset.minute * 60 + (offset.second or 0)
     return _datetime.timezone(offset.sign * _datetime.timedelta(seconds=seconds, microseconds=_microsecond(offset.fraction, truncate)))
 
 
 def _zone_info(zone: Zone) -> _datetime.tzinfo:
-    """Returns the tzinfo of a zone. For a name, it is a ZoneInfo. Raises ZoneInfoNotFoundError for an unknown name."""
+    """Returns the tzinfo of a zone. For a name, it is a ZoneInfo. Raises ZoneNotFoundError for an unknown name."""
     if zone.offset is not None:
         return _fixed(zone.offset, False)
-    from zoneinfo import ZoneInfo, ZoneInfoNotFoundError
+    from ixdtf._zones import find_zone
 
-    try:
-        return ZoneInfo(zone.name or "")
-    except (OSError, ValueError, RecursionError) as error:
-        # ZoneInfo raises these for some names, such as the name of a folder, of a file without a zone, a name with "..", and one with many "/".
-        raise ZoneInfoNotFoundError(f"No time zone found with key {zone.name}") from error
+    return find_zone(zone.name or "")
 
 
 def _is_negative_zero(offset: Offset) -> bool:
@@ -112,15 +140,16 @@ def _agreed(known: _datetime.datetime, offset: Offset, zone: _datetime.tzinfo, o
     local time with the zone as its tzinfo. If the local time occurs twice, `fold` is set so that the result has the offset. If the zone does not have the
     offset at the local time, `on_conflict` decides what is returned or raised."""
     local = known.replace(tzinfo=None)
-    for fold in (0, 1):
-        found = local.replace(tzinfo=zone, fold=fold)
-        if _fits(_offset_at(found), offset) and _exists(found, local):
-            return found
+    for is_exact in (True, False):
+        for fold in (0, 1):
+            found = local.replace(tzinfo=zone, fold=fold)
+            if _fits(_offset_at(found), offset, is_exact) and _exists(found, local):
+                return found
     if on_conflict == "offset":
         return _moved(known, zone)
     if on_conflict == "zone":
         return local.replace(tzinfo=zone)
-    raise ZoneConflictError(f"the offset {_offset_text(offset)} is not that of {zone} at {local}, which has {_delta_text(_offset_at(local.replace(tzinfo=zone)))}")
+    _raise_conflict(local, offset, zone)
 
 
 def _offset_at(local: _datetime.datetime) -> _datetime.timedelta:
@@ -128,14 +157,12 @@ def _offset_at(local: _datetime.datetime) -> _datetime.timedelta:
     return local.utcoffset() or _datetime.timedelta(0)
 
 
-def _fits(delta: _datetime.timedelta, offset: Offset) -> bool:
-    """Returns whether `delta`, the offset of a zone, agrees with the offset of the text. If the offset of the text has no seconds, `delta` is rounded to
-    minutes before the comparison, because ECMAScript's Temporal writes rounded offsets."""
+def _fits(delta: _datetime.timedelta, offset: Offset, is_exact: bool) -> bool:
+    """Returns whether `delta`, the offset of a zone, agrees with the offset of the text. If `is_exact` is false, and the offset of the text has no seconds,
+    `delta` is rounded to minutes before the comparison, because ECMAScript's Temporal writes rounded offsets."""
     written = _fixed(offset, True).utcoffset(None)
-    if delta == written:
-        return True
-    if offset.second is not None:
-        return False
+    if is_exact or offset.second is not None:
+        return delta == written
     minute = _datetime.timedelta(minutes=1)
     whole, rest = divmod(abs(delta), minute)
     rounded = minute * (whole + (2 * rest >= minute))

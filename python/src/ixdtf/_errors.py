@@ -14,12 +14,14 @@ class IxdtfError(ValueError):
     name        the name of the error, such as "DATE_MONTH"
     crate_text  the text of the error in the Rust crate ixdtf 0.6.7
     within      what was being parsed, such as "digit", if the name of the error is "ABRUPT_END"; otherwise ""
+    index       the number of the text, counted from 0, if instants() raised the error; otherwise None
 
     str() returns three lines: the message, the text, and marks under the part that is wrong. If there is a hint, it is the fourth line.
     """
 
     __module__ = "ixdtf"
     hint: Optional[str]
+    index: Optional[int] = None
 
     def __init__(
         self, text: Union[str, bytes], name: str, crate_text: str, reason: str, position: int, start: int, end: int, report: str, within: str

@@ -1,53 +1,35 @@
-/* The extension of the package: the functions that call the readers and printers of the library for C, and the type Record. Code that need not be
- * fast is written in Python, in the other modules of this package. */
-#define PY_SSIZE_T_CLEAN
-#include <Python.h>
+/* The extension of the package: the functions that call the readers and printers of the library for C, and the type Record. _columns.c has the functions that
+ * read many texts. Code that need not be fast is written in Python, in the other modules of this package. */
+#include "_reader.h"
+
 #include <datetime.h>
-#include <ixdtf.h>
 #include <string.h>
 
-/* Python 3.10 added this function. */
-#if PY_VERSION_HEX < 0x030A0000
-static inline PyObject *Py_NewRef(PyObject *object) {
-    Py_INCREF(object);
-    return object;
-}
+/* Python 3.10 added this macro. */
+#ifndef PyDateTime_DATE_GET_TZINFO
+#define PyDateTime_DATE_GET_TZINFO(moment) \
+    (((PyDateTime_DateTime *)(moment))->hastzinfo ? ((PyDateTime_DateTime *)(moment))->tzinfo : Py_None)
 #endif
 
 /* If a text has more bytes than this and there is no handler, the GIL is released while the text is read, so that other threads can run. For a shorter
  * text, releasing the GIL takes longer than reading the text. */
 #define LONG_TEXT 4096
 
-typedef struct {
-    PyObject *error;       /* IxdtfError of _errors.py */
-    PyObject *make_date;   /* this and the next five: functions of _records.py */
-    PyObject *make_time;
-    PyObject *make_offset;
-    PyObject *make_zone;
-    PyObject *make_duration;
-    PyObject *make_instant;
-    PyObject *duration_type; /* this and the next two: Duration, Offset and Zone of _records.py */
-    PyObject *offset_type;
-    PyObject *zone_type;
-    PyObject *to_datetime; /* a function of _datetimes.py */
-    PyObject *describe;    /* a function of _records.py, which returns the text of repr() */
-    PyObject *record_type;
-    PyObject *last_zone;   /* the last tzinfo that fixed_zone made, for the offset of `last_seconds` seconds; or NULL */
-    int32_t last_seconds;
-} module_state;
+/* The parts of a record that the attributes return. A part is NULL until it is needed for the first time. Those before PART_ANNOTATIONS are the arguments of
+ * the constructor. */
+enum { PART_DATE, PART_TIME, PART_OFFSET, PART_ZONE, PART_CALENDAR, PART_ANNOTATIONS, PARTS };
 
-/* The garbage collector does not visit records, because a record refers only to its type and to `source`, and `source` refers to no other object. */
+/* The garbage collector does not visit records, because a record refers only to its type, to `source` and to its parts. `source` refers to no other
+ * object. The parts are made here, and not by a caller. They are tuples, numbers and str, so they never refer to a record. */
 typedef struct {
     PyObject_HEAD
     ixdtf_record fields; /* Its slices point into `source`. */
     PyObject *source;    /* an ASCII str, or bytes, and not of a subclass: an object that never changes */
+    list_record *list;   /* what lists the annotations of `source`, or NULL if it is not a text, or if its reader knows no annotations */
+    PyObject *parts[PARTS];
 } record_object;
 
 static struct PyModuleDef module_definition;
-
-static module_state *state_of(PyObject *module) {
-    return (module_state *)PyModule_GetState(module);
-}
 
 /* Record has no subclasses. So the module of the type of `self` is this module. */
 static module_state *state_of_record(PyObject *self) {
@@ -56,27 +38,35 @@ static module_state *state_of_record(PyObject *self) {
 
 /* ---- Texts ---- */
 
-/* Before Python 3.12, the characters of a str may be missing until PyUnicode_READY is called. Returns 0, with an exception, if this call fails. */
-static int is_ready(PyObject *text) {
-#if PY_VERSION_HEX < 0x030C0000
-    return PyUnicode_READY(text) == 0;
-#else
-    (void)text;
-    return 1;
-#endif
+/* Whether a buffer has one dimension, and its items are bytes. */
+int has_bytes(const Py_buffer *view) {
+    const char *format = view->format == NULL ? "B" : view->format;
+    format += *format == '@' || *format == '=' || *format == '<' || *format == '>' || *format == '!';
+    return view->ndim == 1 && view->itemsize == 1 && (*format == 'B' || *format == 'b' || *format == 'c') && format[1] == 0;
 }
 
-/* The bytes of a text, and a reference to the object that contains them. */
-typedef struct {
-    const uint8_t *at;
-    Py_ssize_t length;
-    PyObject *owner;
-} text_bytes;
+/* Returns a copy of a buffer as bytes. Raises TypeError if the items of the buffer are not bytes, or if it has not exactly one dimension. The bytes of such
+ * a buffer, such as an array of numbers or of several texts, are not a text. */
+PyObject *bytes_of_buffer(PyObject *text) {
+    Py_buffer view;
+    if (PyObject_GetBuffer(text, &view, PyBUF_FULL_RO) < 0) {
+        return NULL;
+    }
+    PyObject *made = NULL;
+    if (!has_bytes(&view)) {
+        PyErr_Format(PyExc_TypeError, "expected a buffer with one dimension and items of one byte, and found %.100s with %d dimensions and the format %.100s",
+            Py_TYPE(text)->tp_name, view.ndim, view.format == NULL ? "B" : view.format);
+    } else if ((made = PyBytes_FromStringAndSize(NULL, view.len)) != NULL && PyBuffer_ToContiguous(PyBytes_AS_STRING(made), &view, view.len, 'C') < 0) {
+        Py_CLEAR(made);
+    }
+    PyBuffer_Release(&view);
+    return made;
+}
 
 /* Writes the bytes of a text to `out`. The text is a str, bytes, or another object with a buffer. An object that can change is copied. An object of a
  * subclass of str or bytes is copied too, because it can refer to the record, and then neither of them would ever be freed. Returns 0, or -1 with an
  * exception. */
-static int take_text(PyObject *text, text_bytes *out) {
+int take_text(PyObject *text, text_bytes *out) {
     if (PyUnicode_Check(text)) {
         if (!is_ready(text)) {
             return -1;
@@ -97,7 +87,7 @@ static int take_text(PyObject *text, text_bytes *out) {
     } else if (PyBytes_Check(text)) {
         out->owner = PyBytes_FromStringAndSize(PyBytes_AS_STRING(text), PyBytes_GET_SIZE(text));
     } else if (PyObject_CheckBuffer(text)) {
-        out->owner = PyBytes_FromObject(text);
+        out->owner = bytes_of_buffer(text);
     } else {
         PyErr_Format(PyExc_TypeError, "expected a text to be str or bytes, and found %.100s", Py_TYPE(text)->tp_name);
         return -1;
@@ -112,21 +102,7 @@ static int take_text(PyObject *text, text_bytes *out) {
 
 /* ---- Kinds ---- */
 
-typedef uint32_t read_record(const uint8_t *text, size_t length, ixdtf_record *out);
-typedef uint32_t list_record(const uint8_t *text, size_t length, ixdtf_annotation *annotations, size_t room, size_t *count, ixdtf_record *out);
-
-/* A kind of text, with its readers for both profiles. `list` and `list_strict` are the readers that list annotations. They are NULL if a text of this
- * kind has no annotations. `numbers` has the numbers of these four readers, for ixdtf_explain. */
-typedef struct {
-    const char *name;
-    read_record *read, *read_strict;
-    list_record *list, *list_strict;
-    uint32_t numbers[4];
-} kind;
-
-enum { DATE_TIME, YEAR_MONTH, MONTH_DAY, TIME, RFC3339, RFC9557, OFFSET, ZONE, ZONE_NAME, RECORD_KINDS };
-
-static const kind KINDS[RECORD_KINDS] = {
+const kind KINDS[RECORD_KINDS] = {
     { "date-time", ixdtf_parse, ixdtf_parse, ixdtf_parse_with_annotations, ixdtf_parse_with_annotations,
       { IXDTF_READER_PARSE, IXDTF_READER_PARSE, IXDTF_READER_PARSE_WITH_ANNOTATIONS, IXDTF_READER_PARSE_WITH_ANNOTATIONS } },
     { "year-month", ixdtf_parse_year_month, ixdtf_parse_year_month, ixdtf_parse_year_month_with_annotations,
@@ -152,7 +128,7 @@ static const kind KINDS[RECORD_KINDS] = {
 
 static const char KIND_OF_DURATION[] = "duration";
 
-static uint32_t run_reader(read_record *read, const text_bytes *text, ixdtf_record *out) {
+uint32_t run_reader(read_record *read, const text_bytes *text, ixdtf_record *out) {
     uint32_t error;
     if (text->length <= LONG_TEXT) {
         return read(text->at, (size_t)text->length, out);
@@ -264,7 +240,7 @@ static PyObject *raise_explained(module_state *state, PyObject *text, const text
 }
 
 /* Raises an IxdtfError for a text that the reader with this number refuses, and returns NULL. */
-static PyObject *raise_error(module_state *state, PyObject *text, const text_bytes *bytes, uint32_t reader, ixdtf_text location) {
+PyObject *raise_error(module_state *state, PyObject *text, const text_bytes *bytes, uint32_t reader, ixdtf_text location) {
     ixdtf_explanation why = IXDTF_EXPLANATION;
     uint32_t error;
     if (bytes->length <= LONG_TEXT) {
@@ -282,16 +258,32 @@ static PyObject *raise_error(module_state *state, PyObject *text, const text_byt
 
 static PyObject *new_record(module_state *state, const ixdtf_record *fields, PyObject *owner) {
     PyTypeObject *type = (PyTypeObject *)state->record_type;
-    record_object *self = (record_object *)type->tp_alloc(type, 0);
+    record_object *self = PyObject_New(record_object, type);
     if (self != NULL) {
         self->fields = *fields;
         self->source = Py_NewRef(owner);
+        self->list = NULL;
+        for (int i = 0; i < PARTS; i++) {
+            self->parts[i] = NULL;
+        }
     }
     return (PyObject *)self;
 }
 
+/* Gives a new record its annotations. It takes the reference to them. `record` can be NULL. */
+static void with_annotations(PyObject *record, PyObject *annotations) {
+    if (record == NULL) {
+        Py_DECREF(annotations);
+    } else {
+        ((record_object *)record)->parts[PART_ANNOTATIONS] = annotations;
+    }
+}
+
 static void record_dealloc(PyObject *self) {
     PyTypeObject *type = Py_TYPE(self);
+    for (int i = 0; i < PARTS; i++) {
+        Py_XDECREF(((record_object *)self)->parts[i]);
+    }
     Py_XDECREF(((record_object *)self)->source);
     type->tp_free(self);
     Py_DECREF(type);
@@ -301,60 +293,150 @@ static PyObject *units_as_str(ixdtf_units units) {
     return PyUnicode_DecodeASCII((const char *)units.at, (Py_ssize_t)units.length, NULL);
 }
 
-static PyObject *get_date(PyObject *self, void *closure) {
-    (void)closure;
-    const ixdtf_date *date = &((record_object *)self)->fields.date;
+/* Makes a named tuple, a tuple of a subclass, with `count` items. It takes the references to the items. If an item is NULL, it drops the others, and
+ * returns NULL. This does what tuple.__new__ does for a subclass, without the call of a function in Python. */
+PyObject *named_tuple(PyObject *type, PyObject *const *items, Py_ssize_t count) {
+    int failed = 0;
+    for (Py_ssize_t i = 0; i < count; i++) {
+        failed |= items[i] == NULL;
+    }
+    PyObject *made = failed ? NULL : ((PyTypeObject *)type)->tp_alloc((PyTypeObject *)type, count);
+    for (Py_ssize_t i = 0; i < count; i++) {
+        if (made != NULL) {
+            PyTuple_SET_ITEM(made, i, items[i]);
+        } else {
+            Py_XDECREF(items[i]);
+        }
+    }
+#if PY_VERSION_HEX >= 0x030E0000
+    /* Python 3.14 keeps the hash of a tuple in the tuple. -1 says that it is not known. */
+    if (made != NULL) {
+        ((PyTupleObject *)made)->ob_hash = -1;
+    }
+#endif
+    return made;
+}
+
+static PyObject *fraction_object(module_state *state, uint64_t value, uint8_t digits) {
+    if (digits == 0) {
+        Py_RETURN_NONE;
+    }
+    return NAMED(state->fraction_type, PyLong_FromLong(digits), PyLong_FromUnsignedLongLong(value));
+}
+
+static PyObject *date_object(module_state *state, const ixdtf_date *date) {
     if (!date->is_there) {
         Py_RETURN_NONE;
     }
-    return PyObject_CallFunction(state_of_record(self)->make_date, "iii", (int)date->year, (int)date->month, (int)date->day);
+    return NAMED(state->date_type, PyLong_FromLong(date->year), PyLong_FromLong(date->month), PyLong_FromLong(date->day));
 }
 
-static PyObject *get_time(PyObject *self, void *closure) {
-    (void)closure;
-    const ixdtf_time *time = &((record_object *)self)->fields.time;
+static PyObject *time_object(module_state *state, const ixdtf_time *time) {
     if (!time->is_there) {
         Py_RETURN_NONE;
     }
-    return PyObject_CallFunction(state_of_record(self)->make_time, "iiiiK", (int)time->hour, (int)time->minute, (int)time->second,
-        (int)time->fraction_digits, (unsigned long long)time->fraction);
+    return NAMED(state->time_type, PyLong_FromLong(time->hour), PyLong_FromLong(time->minute), PyLong_FromLong(time->second),
+        fraction_object(state, time->fraction, time->fraction_digits));
+}
+
+/* Makes an Offset. If it has no seconds, `second` and `fraction` are None. */
+static PyObject *made_offset(module_state *state, int is_negative, int hour, int minute, PyObject *second, PyObject *fraction) {
+    return NAMED(state->offset_type, PyLong_FromLong(is_negative ? -1 : 1), PyLong_FromLong(hour), PyLong_FromLong(minute), second, fraction);
 }
 
 static PyObject *offset_object(module_state *state, const ixdtf_offset *offset) {
     if (offset->form == IXDTF_NO_OFFSET) {
         Py_RETURN_NONE;
     }
-    return PyObject_CallFunction(state->make_offset, "iiiiiiK", (int)offset->form, (int)offset->is_negative, (int)offset->hour, (int)offset->minute,
-        (int)offset->second, (int)offset->fraction_digits, (unsigned long long)offset->fraction);
-}
-
-static PyObject *get_offset(PyObject *self, void *closure) {
-    (void)closure;
-    return offset_object(state_of_record(self), &((record_object *)self)->fields.offset);
+    if (offset->form == IXDTF_UTC) {
+        return Py_NewRef(state->utc);
+    }
+    int has_seconds = offset->form == IXDTF_SECONDS;
+    return made_offset(state, offset->is_negative, offset->hour, offset->minute, has_seconds ? PyLong_FromLong(offset->second) : Py_NewRef(Py_None),
+        has_seconds ? fraction_object(state, offset->fraction, offset->fraction_digits) : Py_NewRef(Py_None));
 }
 
 static PyObject *zone_object(module_state *state, const ixdtf_zone *zone) {
     if (zone->form == IXDTF_NO_ZONE) {
         Py_RETURN_NONE;
     }
-    if (zone->form == IXDTF_ZONE_OFFSET) {
-        return PyObject_CallFunction(state->make_zone, "iOiii", (int)zone->is_critical, Py_None, (int)zone->is_negative, (int)zone->hour, (int)zone->minute);
-    }
-    return PyObject_CallFunction(state->make_zone, "iNiii", (int)zone->is_critical, units_as_str(zone->name), 0, 0, 0);
+    int has_name = zone->form == IXDTF_NAME;
+    return NAMED(state->zone_type, has_name ? units_as_str(zone->name) : Py_NewRef(Py_None),
+        has_name ? Py_NewRef(Py_None) : made_offset(state, zone->is_negative, zone->hour, zone->minute, Py_NewRef(Py_None), Py_NewRef(Py_None)),
+        PyBool_FromLong(zone->is_critical));
 }
 
-static PyObject *get_zone(PyObject *self, void *closure) {
-    (void)closure;
-    return zone_object(state_of_record(self), &((record_object *)self)->fields.zone);
+/* Returns the tuple of some annotations. */
+static PyObject *annotation_tuple(module_state *state, const ixdtf_annotation *list, size_t count) {
+    PyObject *made = PyTuple_New((Py_ssize_t)count);
+    for (size_t i = 0; made != NULL && i < count; i++) {
+        PyObject *annotation = NAMED(state->annotation_type, units_as_str(list[i].key), units_as_str(list[i].value), PyBool_FromLong(list[i].is_critical));
+        if (annotation == NULL) {
+            Py_CLEAR(made);
+        } else {
+            PyTuple_SET_ITEM(made, (Py_ssize_t)i, annotation);
+        }
+    }
+    return made;
 }
 
-static PyObject *get_calendar(PyObject *self, void *closure) {
-    (void)closure;
-    const ixdtf_record *fields = &((record_object *)self)->fields;
-    if (!fields->has_calendar) {
-        Py_RETURN_NONE;
+/* Returns the tuple of the annotations of a text, which `list` accepts. */
+static PyObject *listed_annotations(module_state *state, list_record *list, const uint8_t *at, size_t length) {
+    size_t room = length / 5 + 1, count = 0; /* [a=b] has five bytes */
+    ixdtf_record fields = IXDTF_RECORD;
+    ixdtf_annotation *found = PyMem_Calloc(room, sizeof *found);
+    if (found == NULL) {
+        return PyErr_NoMemory();
     }
-    return units_as_str(fields->calendar);
+    (void)list(at, length, found, room, &count, &fields);
+    PyObject *made = annotation_tuple(state, found, count);
+    PyMem_Free(found);
+    return made;
+}
+
+static PyObject *annotations_object(module_state *state, const record_object *record) {
+    int is_bytes = PyBytes_Check(record->source);
+    const void *at = is_bytes ? (const void *)PyBytes_AS_STRING(record->source) : PyUnicode_1BYTE_DATA(record->source);
+    size_t length = (size_t)(is_bytes ? PyBytes_GET_SIZE(record->source) : PyUnicode_GET_LENGTH(record->source));
+    int has_some = record->list != NULL && memchr(at, '=', length) != NULL;
+    return has_some ? listed_annotations(state, record->list, at, length) : PyTuple_New(0);
+}
+
+static PyObject *part_object(module_state *state, const record_object *record, int number) {
+    const ixdtf_record *fields = &record->fields;
+    switch (number) {
+    case PART_DATE:
+        return date_object(state, &fields->date);
+    case PART_TIME:
+        return time_object(state, &fields->time);
+    case PART_OFFSET:
+        return offset_object(state, &fields->offset);
+    case PART_ZONE:
+        return zone_object(state, &fields->zone);
+    case PART_ANNOTATIONS:
+        return annotations_object(state, record);
+    default:
+        return fields->has_calendar ? units_as_str(fields->calendar) : Py_NewRef(Py_None);
+    }
+}
+
+/* Returns a part of a record. It is made only once. While it is made, Python code can run, because an allocation can start the garbage collector. This code
+ * can read the same part. Then the part that was made first is kept. */
+static PyObject *get_part(PyObject *self, void *closure) {
+    int number = (int)(intptr_t)closure;
+    PyObject **place = &((record_object *)self)->parts[number];
+    if (*place == NULL) {
+        PyObject *made = part_object(state_of_record(self), (record_object *)self, number);
+        if (made == NULL) {
+            return NULL;
+        }
+        if (*place == NULL) {
+            *place = made;
+        } else {
+            Py_DECREF(made);
+        }
+    }
+    return Py_NewRef(*place);
 }
 
 static int same_units(ixdtf_units left, ixdtf_units right) {
@@ -395,10 +477,9 @@ static PyObject *record_compare(PyObject *left, PyObject *right, int operation) 
 
 /* The parts of a record, in the order of the constructor's arguments. */
 static PyObject *record_parts(PyObject *self) {
-    PyObject *parts = PyTuple_New(5);
-    PyObject *(*get[5])(PyObject *, void *) = { get_date, get_time, get_offset, get_zone, get_calendar };
-    for (int i = 0; parts != NULL && i < 5; i++) {
-        PyObject *part = get[i](self, NULL);
+    PyObject *parts = PyTuple_New(PART_ANNOTATIONS);
+    for (int i = 0; parts != NULL && i < PART_ANNOTATIONS; i++) {
+        PyObject *part = get_part(self, (void *)(intptr_t)i);
         if (part == NULL) {
             Py_CLEAR(parts);
         } else {
@@ -428,10 +509,18 @@ static PyObject *record_repr(PyObject *self) {
     return shown;
 }
 
+/* For a record with annotations, the function `restore` makes an equal record again, and otherwise its type does. */
 static PyObject *record_reduce(PyObject *self, PyObject *nothing) {
     (void)nothing;
-    PyObject *parts = record_parts(self);
-    return parts == NULL ? NULL : Py_BuildValue("ON", (PyObject *)Py_TYPE(self), parts);
+    PyObject *annotations = get_part(self, (void *)(intptr_t)PART_ANNOTATIONS), *parts = annotations == NULL ? NULL : record_parts(self), *result = NULL;
+    if (parts != NULL && PyTuple_GET_SIZE(annotations) == 0) {
+        result = PyTuple_Pack(2, Py_TYPE(self), parts);
+    } else if (parts != NULL) {
+        result = Py_BuildValue("N(OO)", PyObject_GetAttrString(PyType_GetModule(Py_TYPE(self)), "_restore"), parts, annotations);
+    }
+    Py_XDECREF(annotations);
+    Py_XDECREF(parts);
+    return result;
 }
 
 /* ---- Making a record from its parts ---- */
@@ -629,6 +718,32 @@ static PyObject *record_new(PyTypeObject *type, PyObject *arguments, PyObject *k
     return made;
 }
 
+/* Whether an object is a tuple of annotations with attributes of the right types. */
+static int are_annotations(module_state *state, PyObject *object) {
+    int result = PyTuple_CheckExact(object);
+    for (Py_ssize_t i = 0; result && i < PyTuple_GET_SIZE(object); i++) {
+        PyObject *one = PyTuple_GET_ITEM(object, i);
+        result = (PyObject *)Py_TYPE(one) == state->annotation_type && PyTuple_GET_SIZE(one) == 3 && PyUnicode_CheckExact(PyTuple_GET_ITEM(one, 0))
+            && PyUnicode_CheckExact(PyTuple_GET_ITEM(one, 1)) && PyBool_Check(PyTuple_GET_ITEM(one, 2));
+    }
+    return result;
+}
+
+/* Makes a record from its parts and its annotations, for pickle and copy. */
+static PyObject *restore(PyObject *module, PyObject *arguments) {
+    module_state *state = state_of(module);
+    PyObject *parts, *annotations;
+    if (!PyArg_ParseTuple(arguments, "O!O:_restore", &PyTuple_Type, &parts, &annotations)) {
+        return NULL;
+    }
+    if (!are_annotations(state, annotations)) {
+        return PyErr_Format(PyExc_TypeError, "expected a tuple of annotations, and found %R", annotations);
+    }
+    PyObject *made = record_new((PyTypeObject *)state->record_type, parts, NULL);
+    with_annotations(made, Py_NewRef(annotations));
+    return made;
+}
+
 /* ---- datetime ---- */
 
 /* Returns the microseconds of a fraction of a second. Returns -1 if the fraction has digits other than 0 after the sixth, or more than 18 digits. Also
@@ -675,31 +790,188 @@ static PyObject *fixed_zone(module_state *state, const ixdtf_offset *offset) {
     return zone;
 }
 
-/* Returns the datetime of a record that has no zone, no fraction in its offset, and only values that a datetime can hold exactly. For any other record,
- * returns NULL without an exception. If an object cannot be made, returns NULL with an exception. */
-static PyObject *plain_datetime(module_state *state, const ixdtf_record *fields) {
+/* Whether a datetime can hold the date, the time and the offset of a record exactly. Writes the microseconds of the time. */
+static int fits_datetime(const ixdtf_record *fields, long *microseconds) {
     const ixdtf_date *date = &fields->date;
     const ixdtf_time *time = &fields->time;
-    long microseconds = microseconds_of(time->fraction, time->fraction_digits);
-    if (!date->is_there || !time->is_there || date->year < 1 || date->year > 9999 || date->day == 0 || time->second > 59 || microseconds < 0
-        || fields->zone.form != IXDTF_NO_ZONE || fields->offset.fraction != 0 || fields->offset.fraction_digits > 18) {
+    *microseconds = microseconds_of(time->fraction, time->fraction_digits);
+    return date->is_there && time->is_there && date->year >= 1 && date->year <= 9999 && date->day != 0 && time->second <= 59 && *microseconds >= 0
+        && fields->offset.fraction == 0 && fields->offset.fraction_digits <= 18;
+}
+
+static PyObject *moment_of(const ixdtf_record *fields, long microseconds, PyObject *zone, int fold) {
+    return PyDateTimeAPI->DateTime_FromDateAndTimeAndFold(fields->date.year, fields->date.month, fields->date.day, fields->time.hour, fields->time.minute,
+        fields->time.second, (int)microseconds, zone, fold, PyDateTimeAPI->DateTimeType);
+}
+
+/* Returns the datetime of a record that has no zone, and that fits. Returns NULL, with an exception, if an object cannot be made. */
+static PyObject *plain_datetime(module_state *state, const ixdtf_record *fields, long microseconds) {
+    PyObject *zone = fields->offset.form == IXDTF_NO_OFFSET ? Py_NewRef(Py_None) : fixed_zone(state, &fields->offset);
+    PyObject *made = zone == NULL ? NULL : moment_of(fields, microseconds, zone, 0);
+    Py_XDECREF(zone);
+    return made;
+}
+
+#define ZONES_KEPT 1024
+
+/* Returns zoneinfo.ZoneInfo, as a borrowed reference, or NULL with an exception. */
+static PyObject *zone_info(module_state *state) {
+    if (state->zone_info == NULL) {
+        PyObject *module = PyImport_ImportModule("zoneinfo");
+        PyObject *found = module == NULL ? NULL : PyObject_GetAttrString(module, "ZoneInfo");
+        Py_XDECREF(module);
+        Py_XSETREF(state->zone_info, found);
+    }
+    return state->zone_info;
+}
+
+/* Keeps a zone, so that zoneinfo does not read its file again. Returns 0, or -1 with an exception. */
+static int keep_zone(module_state *state, PyObject *key, PyObject *zone) {
+    if (PyDict_GetItemWithError(state->zones, key) == zone) {
+        return 0;
+    }
+    if (PyErr_Occurred()) {
+        return -1;
+    }
+    if (PyDict_GET_SIZE(state->zones) >= ZONES_KEPT) {
+        PyDict_Clear(state->zones);
+    }
+    return PyDict_SetItem(state->zones, key, zone);
+}
+
+/* Returns the ZoneInfo with this name. If there is none, returns NULL without an exception, and the function in _datetimes.py raises one that says more. If
+ * an object cannot be made, returns NULL with an exception.
+ *
+ * ZoneInfo keeps only the last eight zones that were used, and zones to which something else refers. So `zones` refers to each of them. ZoneInfo is called
+ * each time all the same: after ZoneInfo.clear_cache(), there is a new object for each name, and Python calculates differently with two datetimes whose
+ * tzinfo is not the same object. */
+static PyObject *named_zone(module_state *state, const ixdtf_units *name) {
+    PyObject *type = zone_info(state), *key = type == NULL ? NULL : units_as_str(*name);
+    if (key == NULL) {
         return NULL;
     }
-    PyObject *zone = fields->offset.form == IXDTF_NO_OFFSET ? Py_NewRef(Py_None) : fixed_zone(state, &fields->offset);
+    PyObject *zone = PyObject_CallOneArg(type, key);
+    if (zone != NULL && keep_zone(state, key, zone) < 0) {
+        Py_CLEAR(zone);
+    } else if (zone == NULL && PyErr_ExceptionMatches(PyExc_Exception) && !PyErr_ExceptionMatches(PyExc_MemoryError)) {
+        PyErr_Clear();
+    }
+    Py_DECREF(key);
+    return zone;
+}
+
+/* Writes an offset that utcoffset() has returned, in microseconds. It drops the reference to this offset. Returns 0, 1 if the offset is None, or -1 with an
+ * exception. */
+static int take_offset(PyObject *delta, int64_t *out) {
+    if (delta == NULL) {
+        return -1;
+    }
+    int result = delta == Py_None ? 1 : PyDelta_Check(delta) ? 0 : -1;
+    if (result == 0) {
+        *out = ((int64_t)PyDateTime_DELTA_GET_DAYS(delta) * 86400 + PyDateTime_DELTA_GET_SECONDS(delta)) * 1000000 + PyDateTime_DELTA_GET_MICROSECONDS(delta);
+    } else if (result < 0) {
+        PyErr_Format(PyExc_TypeError, "expected utcoffset() to return a timedelta or None, and found %.100s", Py_TYPE(delta)->tp_name);
+    }
+    Py_DECREF(delta);
+    return result;
+}
+
+/* Returns an offset in microseconds, rounded to minutes. If it is half a minute, it is rounded away from 0. */
+static int64_t to_minutes(int64_t offset) {
+    const int64_t minute = 60000000;
+    int64_t size = offset < 0 ? -offset : offset;
+    size = (size + minute / 2) / minute * minute;
+    return offset < 0 ? -size : size;
+}
+
+/* Whether an offset is -00:00, which means the same as Z. */
+static int is_negative_zero(const ixdtf_offset *offset) {
+    return offset->is_negative && offset->hour == 0 && offset->minute == 0 && offset->second == 0 && offset->fraction == 0;
+}
+
+/* Returns the local time of a record in a zone with a name, if the zone has the offset of the record at this time. `fold` says which of two equal local times
+ * it is. Otherwise returns NULL without an exception. By PEP 495, utcoffset() is greater with fold=1 than with fold=0 exactly if the clocks were set forward
+ * over the local time, so that it does not exist. It is less if the local time occurs twice. */
+static PyObject *agreed_datetime(module_state *state, const ixdtf_record *fields, long microseconds, PyObject *zone) {
+    int64_t written = (int64_t)ixdtf_offset_seconds(&fields->offset) * 1000000, offsets[2] = { 0, 0 };
+    PyObject *moments[2] = { NULL, NULL }, *found = NULL;
+    for (int fold = 0; fold < 2; fold++) {
+        moments[fold] = moment_of(fields, microseconds, zone, fold);
+        if (moments[fold] == NULL || take_offset(PyObject_CallMethodOneArg(zone, state->word_utcoffset, moments[fold]), &offsets[fold]) != 0) {
+            goto end;
+        }
+    }
+    /* First the offsets are compared exactly, and then, if the record has no seconds in its offset, rounded to minutes. */
+    int ways = offsets[0] < offsets[1] ? 0 : fields->offset.form == IXDTF_MINUTES ? 4 : 2;
+    for (int way = 0; way < ways && found == NULL; way++) {
+        if ((way < 2 ? offsets[way] : to_minutes(offsets[way - 2])) == written) {
+            found = Py_NewRef(moments[way % 2]);
+        }
+    }
+end:
+    Py_XDECREF(moments[0]);
+    Py_XDECREF(moments[1]);
+    return found;
+}
+
+/* Returns an instant, given as a time in UTC, as a local time of a zone. Returns NULL without an exception if the year is then outside 1 to 9999. */
+static PyObject *moved_datetime(module_state *state, const ixdtf_record *fields, long microseconds, PyObject *zone) {
+    PyObject *known = moment_of(fields, microseconds, zone, 0);
+    PyObject *made = known == NULL ? NULL : PyObject_CallMethodOneArg(zone, state->word_fromutc, known);
+    Py_XDECREF(known);
+    if (made == NULL && PyErr_ExceptionMatches(PyExc_OverflowError)) {
+        PyErr_Clear();
+    }
+    return made;
+}
+
+/* Returns the datetime of a record that has a zone, and that fits. If its offset and its zone do not agree, if there is no such zone, or if a datetime cannot
+ * hold the result, returns NULL without an exception. If an object cannot be made, returns NULL with an exception. */
+static PyObject *zoned_datetime(module_state *state, const ixdtf_record *fields, long microseconds) {
+    const ixdtf_offset *offset = &fields->offset;
+    ixdtf_offset of_zone = { 0, 0, IXDTF_MINUTES, fields->zone.is_negative, fields->zone.hour, fields->zone.minute, 0 };
+    int has_name = fields->zone.form == IXDTF_NAME;
+    PyObject *zone = has_name ? named_zone(state, &fields->zone.name) : fixed_zone(state, &of_zone);
+    PyObject *made = NULL;
     if (zone == NULL) {
         return NULL;
     }
-    PyObject *made = PyDateTimeAPI->DateTime_FromDateAndTime(date->year, date->month, date->day, time->hour, time->minute, time->second,
-        (int)microseconds, zone, PyDateTimeAPI->DateTimeType);
+    if (offset->form == IXDTF_UTC || is_negative_zero(offset)) {
+        made = moved_datetime(state, fields, microseconds, zone);
+    } else if (has_name && offset->form != IXDTF_NO_OFFSET) {
+        made = agreed_datetime(state, fields, microseconds, zone);
+    } else if (offset->form == IXDTF_NO_OFFSET || ixdtf_offset_seconds(offset) == ixdtf_offset_seconds(&of_zone)) {
+        made = moment_of(fields, microseconds, zone, 0);
+    }
     Py_DECREF(zone);
     return made;
 }
 
-/* If there are no arguments, plain_datetime makes most datetimes. For the others, the function in _datetimes.py is called, which checks the arguments
- * too. */
+/* Whether `on_conflict` is one of its three values. */
+static int is_conflict_choice(PyObject *value) {
+    return PyUnicode_Check(value) && (PyUnicode_CompareWithASCIIString(value, "error") == 0 || PyUnicode_CompareWithASCIIString(value, "offset") == 0
+        || PyUnicode_CompareWithASCIIString(value, "zone") == 0);
+}
+
+/* Whether the arguments of to_datetime() are right, without a call of __bool__ of one of them. */
+static int has_simple_arguments(PyObject *const *arguments, Py_ssize_t count, PyObject *keywords) {
+    int is_simple = count == 0 || (count <= 2 && is_conflict_choice(arguments[0]));
+    for (Py_ssize_t i = 0; keywords != NULL && is_simple && i < PyTuple_GET_SIZE(keywords); i++) {
+        PyObject *keyword = PyTuple_GET_ITEM(keywords, i);
+        is_simple = PyUnicode_CompareWithASCIIString(keyword, "on_conflict") == 0 ? count == 0 && is_conflict_choice(arguments[count + i])
+            : PyUnicode_CompareWithASCIIString(keyword, "truncate") == 0 && count < 2;
+    }
+    return is_simple;
+}
+
+/* plain_datetime and zoned_datetime make most datetimes. The arguments say only what happens with the other records. For these, the function in
+ * _datetimes.py is called, which checks the arguments and raises the exceptions. */
 static PyObject *record_to_datetime(PyObject *self, PyObject *const *arguments, Py_ssize_t count, PyObject *keywords) {
-    if (count == 0 && keywords == NULL) {
-        PyObject *made = plain_datetime(state_of_record(self), &((record_object *)self)->fields);
+    const ixdtf_record *fields = &((record_object *)self)->fields;
+    module_state *state = state_of_record(self);
+    long microseconds;
+    if (has_simple_arguments(arguments, count, keywords) && fits_datetime(fields, &microseconds)) {
+        PyObject *made = fields->zone.form == IXDTF_NO_ZONE ? plain_datetime(state, fields, microseconds) : zoned_datetime(state, fields, microseconds);
         if (made != NULL || PyErr_Occurred()) {
             return made;
         }
@@ -716,12 +988,186 @@ static PyObject *record_to_datetime(PyObject *self, PyObject *const *arguments, 
     return made;
 }
 
+/* Writes the offset of a datetime to a record. `microseconds` is this offset. */
+static void put_offset(ixdtf_offset *out, int64_t microseconds) {
+    uint64_t size = (uint64_t)(microseconds < 0 ? -microseconds : microseconds), seconds = size / 1000000;
+    out->is_negative = microseconds < 0;
+    out->hour = (uint8_t)(seconds / 3600);
+    out->minute = (uint8_t)(seconds / 60 % 60);
+    out->second = (uint8_t)(seconds % 60);
+    out->fraction = size % 1000000;
+    out->fraction_digits = out->fraction == 0 ? 0 : 6;
+    out->form = size % 60000000 == 0 ? IXDTF_MINUTES : IXDTF_SECONDS;
+}
+
+/* Writes a fraction of a second with `digits` digits, or with as few as possible if `digits` is -1. */
+static void put_fraction(ixdtf_time *out, uint64_t nanoseconds, int digits) {
+    int known = 9;
+    for (; digits >= 0 ? known > digits : known > 0 && nanoseconds % 10 == 0; known--) {
+        nanoseconds /= 10;
+    }
+    out->fraction = nanoseconds;
+    out->fraction_digits = (uint8_t)known;
+}
+
+/* Returns the name of a tzinfo, or None: its attribute `key` (ZoneInfo), or `zone` (pytz). Returns NULL, with an exception, if this fails. */
+static PyObject *name_of_zone(module_state *state, PyObject *tzinfo) {
+    PyObject *words[2] = { state->word_key, state->word_zone };
+    for (int i = 0; i < 2; i++) {
+        PyObject *name = PyObject_GetAttr(tzinfo, words[i]);
+        if (name == NULL) {
+            if (!PyErr_ExceptionMatches(PyExc_AttributeError)) {
+                return NULL;
+            }
+            PyErr_Clear();
+        } else if (PyUnicode_Check(name) && is_ready(name) && PyUnicode_IS_ASCII(name) && PyUnicode_GET_LENGTH(name) > 0) {
+            PyObject *same = PyUnicode_FromObject(name); /* a copy if it is of a subclass of str */
+            Py_DECREF(name);
+            return same;
+        } else {
+            Py_DECREF(name);
+        }
+    }
+    Py_RETURN_NONE;
+}
+
+/* Rounds the offset of a record to minutes, because RFC 9557 has no seconds in an offset, and the zone of the record says them. But if the local time of
+ * `moment` occurs twice in the zone, the offset is not rounded, because its seconds can be needed to say which of the two it is. Returns 0. If the local time
+ * does not exist, or if this cannot be found out, returns -1 with an exception. */
+static int round_offset(module_state *state, PyObject *moment, PyObject *tzinfo, PyObject *name, int64_t offset, ixdtf_record *out) {
+    const int64_t day = 86400000000;
+    int64_t other = 0, rounded = to_minutes(offset);
+    int fold = PyDateTime_DATE_GET_FOLD(moment);
+    PyObject *twin = moment_of(out, PyDateTime_DATE_GET_MICROSECOND(moment), tzinfo, !fold);
+    int found = twin == NULL ? -1 : take_offset(PyObject_CallMethodOneArg(tzinfo, state->word_utcoffset, twin), &other);
+    if (found == 0 && (fold ? other < offset : offset < other)) {
+        PyObject *result = PyObject_CallFunctionObjArgs(state->raise_gap, twin, name, NULL);
+        Py_XDECREF(result);
+        found = -1;
+    } else if (found == 0 && offset == other && rounded < day && rounded > -day) {
+        put_offset(&out->offset, rounded);
+    }
+    Py_XDECREF(twin);
+    return found < 0 ? -1 : 0;
+}
+
+/* Writes the offset and the zone of a datetime with a tzinfo. `source` becomes a new reference to the name of the zone, or None. Returns 0, or -1 with an
+ * exception. */
+static int put_zone(module_state *state, PyObject *moment, PyObject *tzinfo, ixdtf_record *out, PyObject **source) {
+    int64_t offset = 0;
+    int found = take_offset(PyObject_CallMethodNoArgs(moment, state->word_utcoffset), &offset);
+    if (found < 0) {
+        return -1;
+    }
+    /* If utcoffset() has returned None, the datetime is naive. */
+    int has_name = found == 0 && Py_TYPE(tzinfo) != Py_TYPE(PyDateTime_TimeZone_UTC);
+    *source = has_name ? name_of_zone(state, tzinfo) : Py_NewRef(Py_None);
+    if (*source == NULL) {
+        return -1;
+    }
+    if (found == 0) {
+        put_offset(&out->offset, offset);
+    }
+    if (*source == Py_None) {
+        return 0;
+    }
+    out->zone.form = IXDTF_NAME;
+    out->zone.name.at = PyUnicode_1BYTE_DATA(*source);
+    out->zone.name.length = (size_t)PyUnicode_GET_LENGTH(*source);
+    if (round_offset(state, moment, tzinfo, *source, offset, out) < 0) {
+        Py_CLEAR(*source);
+        return -1;
+    }
+    return 0;
+}
+
+/* Writes the nanoseconds after the microseconds of a datetime of a subclass, such as pandas.Timestamp. Returns 0, or -1 with an exception. */
+static int more_nanoseconds(PyObject *moment, long long *out) {
+    PyObject *differs = PyObject_RichCompare(moment, moment, Py_NE);
+    if (differs == NULL) {
+        return -1;
+    }
+    Py_DECREF(differs);
+    if (differs == Py_True) {
+        PyErr_SetString(PyExc_ValueError, "the datetime is not equal to itself, as NaT of pandas, so it is not a time");
+        return -1;
+    }
+    return PyObject_HasAttrString(moment, "nanosecond") ? number_of(moment, "nanosecond", 0, 999, out) : 0;
+}
+
+/* Writes the date and the time of a datetime. `digits` is the number of digits of the fraction, or -1. Returns 0, or -1 with an exception. */
+static int put_local(PyObject *moment, int digits, ixdtf_record *out) {
+    long long more = 0;
+    if (!PyDateTime_CheckExact(moment) && more_nanoseconds(moment, &more) < 0) {
+        return -1;
+    }
+    out->date = (ixdtf_date){ PyDateTime_GET_YEAR(moment), (uint8_t)PyDateTime_GET_MONTH(moment), (uint8_t)PyDateTime_GET_DAY(moment), true };
+    out->time.hour = (uint8_t)PyDateTime_DATE_GET_HOUR(moment);
+    out->time.minute = (uint8_t)PyDateTime_DATE_GET_MINUTE(moment);
+    out->time.second = (uint8_t)PyDateTime_DATE_GET_SECOND(moment);
+    out->time.is_there = true;
+    put_fraction(&out->time, (uint64_t)PyDateTime_DATE_GET_MICROSECOND(moment) * 1000 + (uint64_t)more, digits);
+    return 0;
+}
+
+/* Writes the fields of a datetime to a record. Its slices point into `source`, which becomes a new reference to a str or to bytes. Returns 0, or -1 with an
+ * exception. */
+static int fields_of_datetime(module_state *state, PyObject *moment, int digits, ixdtf_record *out, PyObject **source) {
+    PyObject *tzinfo = PyDateTime_DATE_GET_TZINFO(moment), *name = NULL;
+    if (put_local(moment, digits, out) < 0) {
+        return -1;
+    }
+    if (tzinfo == PyDateTime_TimeZone_UTC) {
+        out->offset.form = IXDTF_UTC;
+    } else if (tzinfo != Py_None && put_zone(state, moment, tzinfo, out, &name) < 0) {
+        return -1;
+    }
+    if (name != NULL && name != Py_None) {
+        *source = name;
+        return 0;
+    }
+    Py_XDECREF(name);
+    *source = PyBytes_FromStringAndSize(NULL, 0);
+    return *source == NULL ? -1 : 0;
+}
+
+static PyObject *record_from_datetime(PyObject *type, PyObject *arguments, PyObject *keywords) {
+    static char *names[] = { "", "digits", NULL };
+    module_state *state = (module_state *)PyType_GetModuleState((PyTypeObject *)type);
+    PyObject *moment, *digits = Py_None, *source = NULL;
+    if (!PyArg_ParseTupleAndKeywords(arguments, keywords, "O|$O:from_datetime", names, &moment, &digits)) {
+        return NULL;
+    }
+    long number = digits == Py_None ? -1 : PyLong_AsLong(digits);
+    if (number == -1 && PyErr_Occurred()) {
+        return NULL;
+    }
+    if (number < -1 || number > 9 || (digits != Py_None && number < 0)) {
+        return PyErr_Format(PyExc_ValueError, "expected digits to be a number from 0 to 9, or None");
+    }
+    if (!PyDateTime_Check(moment)) {
+        return PyErr_Format(PyExc_TypeError, "from_datetime() expects a datetime, and found %.100s", Py_TYPE(moment)->tp_name);
+    }
+    ixdtf_record fields = IXDTF_RECORD;
+    if (fields_of_datetime(state, moment, (int)number, &fields, &source) < 0) {
+        return NULL;
+    }
+    PyObject *made = new_record(state, &fields, source);
+    Py_DECREF(source);
+    return made;
+}
+
+static PyObject *record_str(PyObject *self);
+
 static PyGetSetDef record_getters[] = {
-    { "date", get_date, NULL, "The Date, or None.", NULL },
-    { "time", get_time, NULL, "The Time, or None.", NULL },
-    { "offset", get_offset, NULL, "The Offset, Z, or None.", NULL },
-    { "zone", get_zone, NULL, "The Zone, or None.", NULL },
-    { "calendar", get_calendar, NULL, "The calendar as a str, or None.", NULL },
+    { "date", get_part, NULL, "The Date, or None.", (void *)(intptr_t)PART_DATE },
+    { "time", get_part, NULL, "The Time, or None.", (void *)(intptr_t)PART_TIME },
+    { "offset", get_part, NULL, "The Offset, Z, or None.", (void *)(intptr_t)PART_OFFSET },
+    { "zone", get_part, NULL, "The Zone, or None.", (void *)(intptr_t)PART_ZONE },
+    { "calendar", get_part, NULL, "The calendar as a str, or None.", (void *)(intptr_t)PART_CALENDAR },
+    { "annotations", get_part, NULL,
+      "The annotations of the text, a tuple of Annotation, in the order of the text. A handler does not change them. They do not matter\n"
+      "if two records are compared, and canonical() does not write them.", (void *)(intptr_t)PART_ANNOTATIONS },
     { NULL, NULL, NULL, NULL, NULL },
 };
 
@@ -741,7 +1187,17 @@ static PyMethodDef record_methods[] = {
       "if the year of this instant is not 1 to 9999, in UTC or in the zone.\n\n"
       "With truncate=True, the second 60 becomes 59, and digits after the sixth are dropped. With truncate=False, raises ValueError if\n"
       "the second is 60, if a fraction is not a whole number of microseconds, or if a fraction has more than 18 digits.\n\n"
-      "Raises zoneinfo.ZoneInfoNotFoundError if the name of the zone is unknown." },
+      "Raises ZoneNotFoundError, which is a ValueError, if the name of the zone is unknown." },
+    { "from_datetime", (PyCFunction)(void (*)(void))record_from_datetime, METH_VARARGS | METH_KEYWORDS | METH_CLASS,
+      "from_datetime($type, moment, /, *, digits=None)\n--\n\n"
+      "Returns the Record of a datetime. str() of the Record is a text of RFC 9557.\n\n"
+      "If the datetime has no tzinfo, the Record has no offset. If tzinfo is datetime.timezone.utc, the offset is Z. For every other\n"
+      "tzinfo, the offset is the one that utcoffset() returns. If tzinfo has a name in the attribute key, as a ZoneInfo has, or in the\n"
+      "attribute zone, as the time zones of pytz have, the Record has a zone with this name. Then an offset with seconds is rounded to\n"
+      "minutes, as in ECMAScript's Temporal, unless the local time occurs twice in the zone. to_datetime() returns an equal datetime.\n\n"
+      "digits is the number of digits of the fraction, from 0 to 9. Further digits are dropped. With None, the fraction has as few digits\n"
+      "as it needs. A pandas.Timestamp can have nine.\n\n"
+      "Raises ZoneConflictError, which is a ValueError, if the local time does not exist in the zone." },
     { "__reduce__", record_reduce, METH_NOARGS, NULL },
     { NULL, NULL, 0, NULL },
 };
@@ -752,6 +1208,7 @@ static PyType_Slot record_slots[] = {
     { Py_tp_new, record_new },
     { Py_tp_dealloc, record_dealloc },
     { Py_tp_repr, record_repr },
+    { Py_tp_str, record_str },
     { Py_tp_hash, record_hash },
     { Py_tp_richcompare, record_compare },
     { Py_tp_getset, record_getters },
@@ -779,8 +1236,8 @@ static int reply_units(PyObject *reply, const char *name, ixdtf_units *out, PyOb
 
 /* Calls the handler with one annotation, and passes the reply to the library. The list `kept` gets the value of the reply, because the calendar can point
  * into it. Returns 1 if the reply is accepted or None, 0 if it is refused with the error `error`, and -1 with an exception. */
-static int ask(PyObject *handler, PyObject *make, const ixdtf_annotation *listed, ixdtf_calendar *calendar, PyObject *kept, uint32_t *error) {
-    PyObject *annotation = PyObject_CallFunction(make, "NNO", units_as_str(listed->key), units_as_str(listed->value), listed->is_critical ? Py_True : Py_False);
+static int ask(module_state *state, PyObject *handler, const ixdtf_annotation *listed, ixdtf_calendar *calendar, PyObject *kept, uint32_t *error) {
+    PyObject *annotation = NAMED(state->annotation_type, units_as_str(listed->key), units_as_str(listed->value), PyBool_FromLong(listed->is_critical));
     PyObject *reply = annotation == NULL ? NULL : PyObject_CallFunctionObjArgs(handler, annotation, NULL);
     Py_XDECREF(annotation);
     if (reply == NULL) {
@@ -809,14 +1266,26 @@ static int ask(PyObject *handler, PyObject *make, const ixdtf_annotation *listed
     return went;
 }
 
+/* Makes a record whose calendar points into a reply. So it gets a copy of the name of its zone and of its calendar. */
+static PyObject *record_of_reply(module_state *state, ixdtf_record *fields) {
+    PyObject *name = fields->zone.form == IXDTF_NAME ? units_as_str(fields->zone.name) : NULL;
+    PyObject *value = units_as_str(fields->calendar);
+    PyObject *source = value == NULL || PyErr_Occurred() ? NULL : joined_names(fields, name, value);
+    PyObject *made = source == NULL ? NULL : new_record(state, fields, source);
+    Py_XDECREF(name);
+    Py_XDECREF(value);
+    Py_XDECREF(source);
+    return made;
+}
+
 /* Reads a text with a handler: lists the annotations, calls the handler for each of them in order, and writes the calendar to the record. */
 static PyObject *read_handled(module_state *state, const kind *what, int strict, PyObject *text, const text_bytes *bytes, PyObject *handler) {
     size_t room = (size_t)bytes->length / 5 + 1, count = 0;
     ixdtf_annotation *list = PyMem_Calloc(room, sizeof *list);
-    PyObject *kept = PyList_New(0), *records = PyImport_ImportModule("ixdtf._records"), *make = NULL, *result = NULL;
+    PyObject *kept = PyList_New(0), *result = NULL;
     ixdtf_record fields = IXDTF_RECORD;
     ixdtf_calendar calendar = IXDTF_CALENDAR;
-    if (list == NULL || kept == NULL || records == NULL || (make = PyObject_GetAttrString(records, "Annotation")) == NULL) {
+    if (list == NULL || kept == NULL) {
         if (list == NULL) {
             PyErr_NoMemory();
         }
@@ -825,7 +1294,7 @@ static PyObject *read_handled(module_state *state, const kind *what, int strict,
     uint32_t error = (strict ? what->list_strict : what->list)(bytes->at, (size_t)bytes->length, list, room, &count, &fields);
     for (size_t i = 0; i < count; i++) {
         uint32_t refused = IXDTF_OK;
-        int went = ask(handler, make, &list[i], &calendar, kept, &refused);
+        int went = ask(state, handler, &list[i], &calendar, kept, &refused);
         if (went < 0) {
             goto end;
         }
@@ -841,23 +1310,14 @@ static PyObject *read_handled(module_state *state, const kind *what, int strict,
         goto end;
     }
     ixdtf_keep_calendar(&fields, &calendar);
-    if (!calendar.is_there) {
-        result = new_record(state, &fields, bytes->owner);
-    } else {
-        /* The calendar points into a reply. So the record gets a copy of the name of its zone and of its calendar. */
-        PyObject *name = fields.zone.form == IXDTF_NAME ? units_as_str(fields.zone.name) : NULL;
-        PyObject *value = units_as_str(fields.calendar);
-        PyObject *source = value == NULL || PyErr_Occurred() ? NULL : joined_names(&fields, name, value);
-        result = source == NULL ? NULL : new_record(state, &fields, source);
-        Py_XDECREF(name);
-        Py_XDECREF(value);
-        Py_XDECREF(source);
+    PyObject *annotations = annotation_tuple(state, list, count);
+    if (annotations != NULL) {
+        result = calendar.is_there ? record_of_reply(state, &fields) : new_record(state, &fields, bytes->owner);
+        with_annotations(result, annotations);
     }
 end:
     PyMem_Free(list);
     Py_XDECREF(kept);
-    Py_XDECREF(records);
-    Py_XDECREF(make);
     return result;
 }
 
@@ -876,6 +1336,9 @@ static PyObject *read_kind(PyObject *module, const kind *what, PyObject *text, i
         ixdtf_record fields = IXDTF_RECORD;
         uint32_t error = run_reader(strict ? what->read_strict : what->read, &bytes, &fields);
         result = error == IXDTF_OK ? new_record(state, &fields, bytes.owner) : raise_error(state, text, &bytes, what->numbers[strict ? 1 : 0], fields.location);
+        if (error == IXDTF_OK && result != NULL) {
+            ((record_object *)result)->list = strict ? what->list_strict : what->list;
+        }
     }
     Py_DECREF(bytes.owner);
     return result;
@@ -949,6 +1412,10 @@ static PyObject *parse_zone_name(PyObject *module, PyObject *text) {
     return read_part(module, text, &KINDS[ZONE_NAME]);
 }
 
+static PyObject *unit_object(int is_there, uint64_t number) {
+    return is_there ? PyLong_FromUnsignedLongLong(number) : Py_NewRef(Py_None);
+}
+
 static PyObject *parse_duration(PyObject *module, PyObject *arguments, PyObject *keywords) {
     static char *names[] = { "", "strict", NULL };
     PyObject *text;
@@ -967,16 +1434,17 @@ static PyObject *parse_duration(PyObject *module, PyObject *arguments, PyObject 
     if (error != IXDTF_OK) {
         result = raise_error(state, text, &bytes, strict ? IXDTF_READER_PARSE_DURATION_STRICT : IXDTF_READER_PARSE_DURATION, fields.location);
     } else {
-        result = PyObject_CallFunction(state->make_duration, "iiIIIKiKKKiK", (int)fields.is_negative, (int)fields.has_date, (unsigned)fields.years,
-            (unsigned)fields.months, (unsigned)fields.weeks, (unsigned long long)fields.days, (int)fields.time_form, (unsigned long long)fields.hours,
-            (unsigned long long)fields.minutes, (unsigned long long)fields.seconds, (int)fields.fraction_digits, (unsigned long long)fields.fraction);
+        result = NAMED(state->duration_type, PyLong_FromLong(fields.is_negative ? -1 : 1), unit_object(fields.has_date, fields.years),
+            unit_object(fields.has_date, fields.months), unit_object(fields.has_date, fields.weeks), unit_object(fields.has_date, fields.days),
+            unit_object(fields.time_form >= IXDTF_LAST_HOURS, fields.hours), unit_object(fields.time_form >= IXDTF_LAST_MINUTES, fields.minutes),
+            unit_object(fields.time_form >= IXDTF_LAST_SECONDS, fields.seconds), fraction_object(state, fields.fraction, fields.fraction_digits));
     }
     Py_DECREF(bytes.owner);
     return result;
 }
 
 /* Returns the number of the kind with this name. It is RECORD_KINDS for a duration. Returns -1, with an exception, if there is no such kind. */
-static int kind_number(PyObject *name) {
+int kind_number(PyObject *name) {
     if (PyUnicode_Check(name)) {
         for (int i = 0; i < RECORD_KINDS; i++) {
             if (PyUnicode_CompareWithASCIIString(name, KINDS[i].name) == 0) {
@@ -1116,7 +1584,8 @@ static const struct { const char *kind, *reader; uint32_t (*print)(const ixdtf_r
     { "time", "parse_time", ixdtf_print_time },
 };
 
-static PyObject *canonical_record(const ixdtf_record *fields, int number) {
+/* Returns the canonical text of a record, or NULL with or without an exception. Without one, the record has no canonical text. */
+static PyObject *printed_record(const ixdtf_record *fields, int number) {
     uint8_t few[128];
     size_t count = 0;
     uint32_t error = PRINTERS[number].print(fields, few, sizeof few, &count);
@@ -1124,7 +1593,7 @@ static PyObject *canonical_record(const ixdtf_record *fields, int number) {
         return PyUnicode_DecodeASCII((const char *)few, (Py_ssize_t)count, NULL);
     }
     if (error == IXDTF_NOT_PRINTABLE) {
-        return PyErr_Format(PyExc_ValueError, "no text that %s() accepts gives this record, so it has no canonical text", PRINTERS[number].reader);
+        return NULL;
     }
     PyObject *made = PyUnicode_New((Py_ssize_t)count, 127);
     if (made != NULL && PRINTERS[number].print(fields, PyUnicode_1BYTE_DATA(made), count, &count) != IXDTF_OK) {
@@ -1132,6 +1601,69 @@ static PyObject *canonical_record(const ixdtf_record *fields, int number) {
         PyErr_SetString(PyExc_SystemError, "expected the length of the canonical text to be the length that the library counted before");
     }
     return made;
+}
+
+static PyObject *canonical_record(const ixdtf_record *fields, int number) {
+    PyObject *made = printed_record(fields, number);
+    if (made == NULL && !PyErr_Occurred()) {
+        PyErr_Format(PyExc_ValueError, "no text that %s() accepts gives this record, so it has no canonical text", PRINTERS[number].reader);
+    }
+    return made;
+}
+
+/* Returns the canonical text of a record of parse() or of parse_time(). For any other record, returns what repr() returns. */
+static PyObject *record_str(PyObject *self) {
+    const ixdtf_record *fields = &((record_object *)self)->fields;
+    PyObject *made = printed_record(fields, fields->date.is_there ? 0 : 3);
+    return made != NULL || PyErr_Occurred() ? made : record_repr(self);
+}
+
+static PyObject *canonical_datetime(module_state *state, PyObject *moment) {
+    ixdtf_record fields = IXDTF_RECORD;
+    PyObject *source = NULL;
+    if (fields_of_datetime(state, moment, -1, &fields, &source) < 0) {
+        return NULL;
+    }
+    PyObject *made = canonical_record(&fields, 0);
+    Py_DECREF(source);
+    return made;
+}
+
+/* Writes the date of a day, which is a number of days since 1970-01-01. The algorithm counts years from 1 March, so that the leap day is the last one. Returns
+ * 0 if the year is outside -999999 to 999999. */
+static int put_day(ixdtf_date *out, int64_t day) {
+    const int64_t days_of_400_years = 146097, most = 400000000;
+    if (day < -most || day > most) {
+        return 0;
+    }
+    int64_t since = day + 719468; /* since 0000-03-01 */
+    int64_t era = (since >= 0 ? since : since - days_of_400_years + 1) / days_of_400_years, in_era = since - era * days_of_400_years;
+    int64_t year = (in_era - in_era / 1460 + in_era / 36524 - in_era / 146096) / 365, in_year = in_era - (365 * year + year / 4 - year / 100);
+    int64_t month = (5 * in_year + 2) / 153; /* 0 for March */
+    year += era * 400 + (month >= 10);
+    *out = (ixdtf_date){ (int32_t)year, (uint8_t)(month < 10 ? month + 3 : month - 9), (uint8_t)(in_year - (153 * month + 2) / 5 + 1), true };
+    return year >= -999999 && year <= 999999;
+}
+
+/* Returns the text of an instant, in UTC. */
+static PyObject *canonical_instant(PyObject *instant) {
+    ixdtf_record fields = IXDTF_RECORD;
+    long long seconds, nanoseconds;
+    if (number_of(instant, "seconds", INT64_MIN, INT64_MAX, &seconds) < 0 || number_of(instant, "nanoseconds", 0, 999999999, &nanoseconds) < 0) {
+        return NULL;
+    }
+    int64_t in_day = (seconds % 86400 + 86400) % 86400;
+    if (!put_day(&fields.date, seconds / 86400 - (seconds % 86400 < 0))) {
+        PyErr_SetString(PyExc_ValueError, "the year of the instant is outside -999999 to 999999, so it has no canonical text");
+        return NULL;
+    }
+    fields.time.hour = (uint8_t)(in_day / 3600);
+    fields.time.minute = (uint8_t)(in_day / 60 % 60);
+    fields.time.second = (uint8_t)(in_day % 60);
+    fields.time.is_there = true;
+    put_fraction(&fields.time, (uint64_t)nanoseconds, -1);
+    fields.offset.form = IXDTF_UTC;
+    return canonical_record(&fields, 0);
 }
 
 static PyObject *canonical_offset(PyObject *offset) {
@@ -1203,7 +1735,13 @@ static PyObject *canonical(PyObject *module, PyObject *arguments, PyObject *keyw
     if (PyObject_TypeCheck(record, (PyTypeObject *)state->zone_type)) {
         return canonical_zone(record);
     }
-    return PyErr_Format(PyExc_TypeError, "canonical() expects a Record, a Duration, an Offset or a Zone, and found %.100s", Py_TYPE(record)->tp_name);
+    if (PyDateTime_Check(record)) {
+        return canonical_datetime(state, record);
+    }
+    if (PyObject_TypeCheck(record, (PyTypeObject *)state->instant_type)) {
+        return canonical_instant(record);
+    }
+    return PyErr_Format(PyExc_TypeError, "canonical() expects a Record, a Duration, an Offset, a Zone, an Instant or a datetime, and found %.100s", Py_TYPE(record)->tp_name);
 }
 
 static PyObject *instant(PyObject *module, PyObject *record) {
@@ -1221,7 +1759,7 @@ static PyObject *instant(PyObject *module, PyObject *record) {
                                                                  : "the value of a fraction has more digits than its field digits says, so the record has no instant");
         return NULL;
     }
-    return PyObject_CallFunction(state->make_instant, "LI", (long long)seconds, (unsigned)nanoseconds);
+    return NAMED(state->instant_type, PyLong_FromLongLong(seconds), PyLong_FromUnsignedLong(nanoseconds));
 }
 
 #define FAST(function) (PyCFunction)(void (*)(void))function, METH_FASTCALL | METH_KEYWORDS
@@ -1232,7 +1770,8 @@ static PyMethodDef module_methods[] = {
       "Reads a date, or a date and a time, and returns its Record. The text may have an offset, a zone and annotations.\n\n"
       "The text is str or bytes, such as '2024-03-02T08:48:00-05:00[America/New_York][u-ca=hebrew]'. Raises IxdtfError if the text is\n"
       "refused. handler is a function. parse() calls it with each Annotation in order, up to the first error. The handler returns\n"
-      "this annotation, another annotation that replaces it, or None to drop it." },
+      "this annotation, another annotation that replaces it, or None to drop it. So list.append, which returns None, drops all of them:\n"
+      "to read the annotations of a text, use the attribute annotations of its Record." },
     { "parse_year_month", FAST(parse_year_month), "parse_year_month(text, /, *, handler=None)\n--\n\nReads a year and a month, such as '2020-11', and returns its Record. The day of the Record is 1." },
     { "parse_month_day", FAST(parse_month_day),
       "parse_month_day(text, /, *, strict=False, handler=None)\n--\n\nReads a month and a day, such as '11-07', and returns its Record. The year of the Record is 0.\n"
@@ -1258,12 +1797,32 @@ static PyMethodDef module_methods[] = {
       "is_valid(text, /, kind='date-time', *, strict=False)\n--\n\n"
       "Returns whether a reader accepts the text. kind says which reader: for example, parse() for date-time, and parse_time() for\n"
       "time. The kinds are date-time, year-month, month-day, time, rfc3339, rfc9557, offset, zone, zone-name and duration." },
+    { "is_valid_many", (PyCFunction)(void (*)(void))is_valid_many, METH_VARARGS | METH_KEYWORDS,
+      "is_valid_many(texts, /, kind='date-time', *, strict=False, offsets=None)\n--\n\n"
+      "Returns for each of many texts whether a reader accepts it, as a memoryview of bool. kind and strict are those of is_valid().\n\n"
+      "texts is what instants() accepts. None and NaN in place of a text are not accepted, so their value is False. A memoryview cannot be\n"
+      "pickled: tolist() makes a list of it." },
+    { "instants", (PyCFunction)(void (*)(void))instants, METH_VARARGS | METH_KEYWORDS,
+      "instants(texts, /, kind='date-time', *, errors='raise', unit='ns', offsets=None)\n--\n\n"
+      "Returns the instants of many texts as an Instants: an array('q') of numbers since 1970-01-01T00:00:00Z, and a memoryview of bool that\n"
+      "says which texts have no value. numpy.asarray(values).view('datetime64[ns]') makes an array of NumPy without a copy.\n\n"
+      "texts is a list, a tuple or another iterable of str or bytes. It can also be one str, or bytes or another buffer of bytes, with one\n"
+      "text in each line. It can be an array of NumPy with the type S, or with objects. With offsets, a buffer of n + 1 numbers of 32 or 64\n"
+      "bits, the n texts are between these places of a buffer of bytes, as in an array of Arrow. kind is date-time, rfc3339 or rfc9557.\n\n"
+      "unit is ns, us, ms or s. An instant is rounded down to this unit. As for instant(), the zone does not matter, and the second 60 is\n"
+      "the same instant as the second 59.\n\n"
+      "A text has no value if it is refused, if it has no time or no offset, or if 64 bits cannot hold its instant in this unit: for ns,\n"
+      "the years 1678 to 2261 always fit. With errors='raise', the first such text raises IxdtfError, or another ValueError. Its attribute\n"
+      "index is the number of the text, counted from 0. With errors='coerce', its number is -2**63, which is NaT in NumPy and pandas, and\n"
+      "missing is True. None and NaN in place of a text then have no value either." },
     { "canonical", (PyCFunction)(void (*)(void))canonical, METH_VARARGS | METH_KEYWORDS,
-      "canonical(record, /, kind='date-time')\n--\n\nReturns the canonical text of a Record, a Duration, an Offset or a Zone: the one text that the library writes for this value.\n\n"
+      "canonical(record, /, kind='date-time')\n--\n\nReturns the canonical text of a Record, a Duration, an Offset or a Zone: the one text that the library writes for this value.\n"
+      "Returns the text of an Instant in UTC, and of a datetime what str() of Record.from_datetime() returns.\n\n"
       "kind says which function reads the text of a Record: parse() for date-time, parse_year_month() for year-month,\n"
       "parse_month_day() for month-day, and parse_time() for time. parse_duration(), parse_offset() and parse_zone() read the texts\n"
       "of the other three types. The function that reads the text returns an equal value, except that the text of a Zone does not\n"
       "say whether the Zone is critical. Raises ValueError if a value has no such text: for example, if the date is 30 February." },
+    { "_restore", restore, METH_VARARGS, NULL },
     { "instant", instant, METH_O,
       "instant(record, /)\n--\n\nReturns the Instant of a Record: the seconds since 1970-01-01T00:00:00Z, rounded down, and the nanoseconds after them.\n\n"
       "Raises ValueError if the record has no date, no time or no offset. The time zone does not matter. The second 60 is the same\n"
@@ -1273,7 +1832,7 @@ static PyMethodDef module_methods[] = {
 
 /* ---- The module ---- */
 
-static int take_names(PyObject *module, const char *from, const char *const *names, PyObject **out[], int count) {
+static int take_names(const char *from, const char *const *names, PyObject **out[], int count) {
     PyObject *other = PyImport_ImportModule(from);
     for (int i = 0; other != NULL && i < count; i++) {
         *out[i] = PyObject_GetAttrString(other, names[i]);
@@ -1281,7 +1840,6 @@ static int take_names(PyObject *module, const char *from, const char *const *nam
             Py_CLEAR(other);
         }
     }
-    (void)module;
     if (other == NULL) {
         return -1;
     }
@@ -1291,20 +1849,27 @@ static int take_names(PyObject *module, const char *from, const char *const *nam
 
 static int execute(PyObject *module) {
     module_state *state = state_of(module);
-    static const char *const records[] = { "make_date", "make_time", "make_offset", "make_zone", "make_duration", "make_instant", "describe",
-                                          "Duration", "Offset", "Zone" };
-    PyObject **places[] = { &state->make_date, &state->make_time, &state->make_offset, &state->make_zone, &state->make_duration, &state->make_instant,
-                             &state->describe, &state->duration_type, &state->offset_type, &state->zone_type };
+    static const char *const records[] = { "Fraction", "Date", "Time", "Offset", "Zone", "Annotation", "Duration", "Instant", "Instants", "Z", "describe" };
+    PyObject **places[] = { &state->fraction_type, &state->date_type, &state->time_type, &state->offset_type, &state->zone_type, &state->annotation_type,
+                             &state->duration_type, &state->instant_type, &state->instants_type, &state->utc, &state->describe };
     static const char *const errors[] = { "IxdtfError" };
-    static const char *const datetimes[] = { "to_datetime" };
+    static const char *const datetimes[] = { "to_datetime", "raise_gap" };
     if (ixdtf_interface_version() != IXDTF_INTERFACE_VERSION) {
         PyErr_SetString(PyExc_ImportError, "expected the version of the library for C to be the version of its header");
         return -1;
     }
     PyDateTime_IMPORT;
-    if (PyDateTimeAPI == NULL || take_names(module, "ixdtf._records", records, places, (int)(sizeof places / sizeof *places)) < 0
-        || take_names(module, "ixdtf._errors", errors, (PyObject **[]){ &state->error }, 1) < 0
-        || take_names(module, "ixdtf._datetimes", datetimes, (PyObject **[]){ &state->to_datetime }, 1) < 0) {
+    if (PyDateTimeAPI == NULL || take_names("ixdtf._records", records, places, (int)(sizeof places / sizeof *places)) < 0
+        || take_names("ixdtf._errors", errors, (PyObject **[]){ &state->error }, 1) < 0
+        || take_names("ixdtf._datetimes", datetimes, (PyObject **[]){ &state->to_datetime, &state->raise_gap }, 2) < 0) {
+        return -1;
+    }
+    state->zones = PyDict_New();
+    state->word_fromutc = PyUnicode_InternFromString("fromutc");
+    state->word_utcoffset = PyUnicode_InternFromString("utcoffset");
+    state->word_key = PyUnicode_InternFromString("key");
+    state->word_zone = PyUnicode_InternFromString("zone");
+    if (state->zones == NULL || state->word_fromutc == NULL || state->word_utcoffset == NULL || state->word_key == NULL || state->word_zone == NULL) {
         return -1;
     }
     state->record_type = PyType_FromModuleAndSpec(module, &record_spec, NULL);
@@ -1325,41 +1890,20 @@ static int execute(PyObject *module) {
     return 0;
 }
 
+/* All members of module_state before `last_seconds` are references to objects. */
 static int traverse(PyObject *module, visitproc visit, void *arg) {
-    module_state *state = state_of(module);
-    Py_VISIT(state->error);
-    Py_VISIT(state->make_date);
-    Py_VISIT(state->make_time);
-    Py_VISIT(state->make_offset);
-    Py_VISIT(state->make_zone);
-    Py_VISIT(state->make_duration);
-    Py_VISIT(state->make_instant);
-    Py_VISIT(state->duration_type);
-    Py_VISIT(state->offset_type);
-    Py_VISIT(state->zone_type);
-    Py_VISIT(state->to_datetime);
-    Py_VISIT(state->describe);
-    Py_VISIT(state->record_type);
-    Py_VISIT(state->last_zone);
+    PyObject **objects = (PyObject **)state_of(module);
+    for (size_t i = 0; i < OBJECTS_OF_STATE; i++) {
+        Py_VISIT(objects[i]);
+    }
     return 0;
 }
 
 static int clear(PyObject *module) {
-    module_state *state = state_of(module);
-    Py_CLEAR(state->error);
-    Py_CLEAR(state->make_date);
-    Py_CLEAR(state->make_time);
-    Py_CLEAR(state->make_offset);
-    Py_CLEAR(state->make_zone);
-    Py_CLEAR(state->make_duration);
-    Py_CLEAR(state->make_instant);
-    Py_CLEAR(state->duration_type);
-    Py_CLEAR(state->offset_type);
-    Py_CLEAR(state->zone_type);
-    Py_CLEAR(state->to_datetime);
-    Py_CLEAR(state->describe);
-    Py_CLEAR(state->record_type);
-    Py_CLEAR(state->last_zone);
+    PyObject **objects = (PyObject **)state_of(module);
+    for (size_t i = 0; i < OBJECTS_OF_STATE; i++) {
+        Py_CLEAR(objects[i]);
+    }
     return 0;
 }
 

@@ -1,7 +1,11 @@
 """The parts of a record, durations and instants. All of them except Z are named tuples: they never change, and two of them are equal if their fields
 are equal."""
 import datetime as _datetime
-from typing import Any, NamedTuple, Optional, Union
+import enum
+from typing import TYPE_CHECKING, Any, Final, Literal, NamedTuple, Optional
+
+if TYPE_CHECKING:
+    from array import array
 
 
 class Fraction(NamedTuple):
@@ -29,6 +33,14 @@ class Date(NamedTuple):
     month: int
     day: int
 
+    def to_date(self) -> _datetime.date:
+        """Returns the datetime.date. Raises ValueError if the year is not 1 to 9999, or if the day does not exist in the month."""
+        if not 1 <= self.year <= 9999:
+            raise ValueError(f"the year of a datetime is 1 to 9999, but the year of the record is {self.year}")
+        if self.day == 0:
+            raise ValueError("the day of a datetime is at least 1, but the day of the record is 0")
+        return _datetime.date(self.year, self.month, self.day)
+
 
 class Time(NamedTuple):
     """A time of day. The second is 0 to 60. If the text has no fraction, `fraction` is None."""
@@ -42,6 +54,13 @@ class Time(NamedTuple):
     def nanosecond(self) -> int:
         """The nanoseconds of the fraction. Digits after the ninth are dropped."""
         return 0 if self.fraction is None else self.fraction.nanosecond
+
+    def to_time(self, truncate: bool = False) -> _datetime.time:
+        """Returns the datetime.time, without a tzinfo. Raises ValueError if the second is 60, or if the fraction has digits other than 0 after the sixth, or
+        more than 18 digits. With truncate=True, the second 60 becomes 59, and digits after the sixth are dropped."""
+        if self.second == 60 and not truncate:
+            raise ValueError("the second of a datetime is at most 59, but the second of the record is 60. With truncate=True, it becomes 59.")
+        return _datetime.time(self.hour, self.minute, min(self.second, 59), _microsecond(self.fraction, truncate))
 
 
 class Offset(NamedTuple):
@@ -61,7 +80,7 @@ class Offset(NamedTuple):
     fraction: Optional[Fraction] = None
 
     @property
-    def is_utc(self) -> bool:
+    def is_utc(self) -> Literal[False]:
         """Whether this value is Z, which says that the time is in UTC. An Offset is never Z, so this property is always False."""
         return False
 
@@ -70,22 +89,38 @@ class Offset(NamedTuple):
         seconds = self.hour * 3600 + self.minute * 60 + (self.second or 0)
         return self.sign * _datetime.timedelta(seconds=seconds, microseconds=_microseconds(self.fraction, 1))
 
+    def to_timezone(self) -> _datetime.timezone:
+        """Returns the offset as a datetime.timezone. Raises ValueError if the fraction is not a whole number of microseconds, or has more than 18 digits."""
+        return _datetime.timezone(self.to_timedelta())
 
-class _Utc:
-    """The type of Z, which says that the time is in UTC, and does not say what the local time is."""
 
-    __slots__ = ()
-    is_utc = True
+class Utc(enum.Enum):
+    """The type of Z, its only value, which says that the time is in UTC, and does not say what the local time is."""
+
+    Z = "Z"
+
+    @property
+    def is_utc(self) -> Literal[True]:
+        """Whether this value is Z. It is always True."""
+        return True
+
+    def to_timedelta(self) -> _datetime.timedelta:
+        """Returns a timedelta of 0."""
+        return _datetime.timedelta(0)
+
+    def to_timezone(self) -> _datetime.timezone:
+        """Returns datetime.timezone.utc."""
+        return _datetime.timezone.utc
 
     def __repr__(self) -> str:
         return "Z"
 
-    def __reduce__(self) -> str:
+    def __str__(self) -> str:
         return "Z"
 
 
-_Utc.__module__ = "ixdtf"
-Z = _Utc()
+Utc.__module__ = "ixdtf"
+Z: Final = Utc.Z
 
 
 class Zone(NamedTuple):
@@ -103,6 +138,12 @@ class Annotation(NamedTuple):
     key: str
     value: str
     is_critical: bool = False
+
+
+class DurationTooLongError(ValueError, OverflowError):
+    """Raised by Duration.to_timedelta if the duration is too long for a timedelta."""
+
+    __module__ = "ixdtf"
 
 
 class Duration(NamedTuple):
@@ -129,14 +170,19 @@ class Duration(NamedTuple):
         """Returns the duration as a timedelta.
 
         Raises ValueError if the duration has years or months other than 0, because their lengths differ. Raises ValueError if the fraction is not a
-        whole number of microseconds, or has more than 18 digits. Raises OverflowError if the duration is too long for a timedelta.
+        whole number of microseconds, or has more than 18 digits. Raises DurationTooLongError, which is a ValueError and an OverflowError, if the duration is too long
+        for a timedelta.
         """
         if self.years or self.months:
             raise ValueError("a duration with years or months has no fixed length")
         last = 1 if self.seconds is not None else 60 if self.minutes is not None else 3600
         days = 7 * (self.weeks or 0) + (self.days or 0)
         seconds = 3600 * (self.hours or 0) + 60 * (self.minutes or 0) + (self.seconds or 0)
-        return self.sign * (_datetime.timedelta(days=days) + _datetime.timedelta(seconds=seconds) + _datetime.timedelta(microseconds=_microseconds(self.fraction, last)))
+        rest = _datetime.timedelta(microseconds=_microseconds(self.fraction, last))
+        try:
+            return self.sign * (_datetime.timedelta(days=days) + _datetime.timedelta(seconds=seconds) + rest)
+        except OverflowError:
+            raise DurationTooLongError("the duration is too long for a timedelta, which has at most 999,999,999 days") from None
 
 
 class Instant(NamedTuple):
@@ -149,8 +195,40 @@ class Instant(NamedTuple):
     seconds: int
     nanoseconds: int
 
+    def to_datetime(self, truncate: bool = False) -> _datetime.datetime:
+        """Returns the instant as a datetime.datetime whose tzinfo is datetime.timezone.utc. Raises ValueError if the year is not 1 to 9999, or if the
+        nanoseconds are not a whole number of microseconds. With truncate=True, further digits are dropped."""
+        if self.nanoseconds % 1000 and not truncate:
+            raise ValueError("the nanoseconds of the instant do not fit into the six digits of a datetime. With truncate=True, further digits are dropped.")
+        try:
+            return _EPOCH + _datetime.timedelta(seconds=self.seconds, microseconds=self.nanoseconds // 1000)
+        except OverflowError:
+            raise ValueError("the year of a datetime is 1 to 9999, but the year of the instant is outside of it") from None
 
-for _part in (Fraction, Date, Time, Offset, Zone, Annotation, Duration, Instant):
+
+class Instants(NamedTuple):
+    """What instants() returns: the time of each text since 1970-01-01T00:00:00Z.
+
+    values   an array of numbers of 64 bits, one for each text, in nanoseconds or another unit. NumPy makes an array of datetime64 without a copy from it:
+             numpy.asarray(values).view("datetime64[ns]")
+    missing  a memoryview of bool, one for each text: whether the text has no value. The number in `values` is then -2**63, which is NaT in NumPy and pandas.
+    """
+
+    values: "array[int]"
+    missing: memoryview
+
+    def __reduce__(self) -> tuple[Any, ...]:
+        return _made_instants, (self.values, bytes(self.missing))
+
+
+def _made_instants(values: "array[int]", missing: bytes) -> Instants:
+    """Makes an Instants for pickle, which cannot pickle a memoryview."""
+    return Instants(values, memoryview(bytearray(missing)).cast("?"))
+
+
+_EPOCH = _datetime.datetime(1970, 1, 1, tzinfo=_datetime.timezone.utc)
+
+for _part in (Fraction, Date, Time, Offset, Zone, Annotation, Duration, Instant, Instants):
     _part.__module__ = "ixdtf"
 
 
@@ -167,64 +245,19 @@ def _microseconds(fraction: Optional[Fraction], seconds: int) -> int:
     return int(whole)
 
 
-def _fraction(digits: int, value: int) -> Optional[Fraction]:
-    return Fraction(digits, value) if digits else None
-
-
-def make_instant(seconds: int, nanoseconds: int) -> Instant:
-    """Makes an Instant. The extension ixdtf._reader calls this function and the other ones whose names begin with make_."""
-    return Instant(seconds, nanoseconds)
-
-
-def make_date(year: int, month: int, day: int) -> Date:
-    """Makes the Date of a record."""
-    return Date(year, month, day)
-
-
-def make_time(hour: int, minute: int, second: int, digits: int, value: int) -> Time:
-    """Makes the Time of a record."""
-    return Time(hour, minute, second, _fraction(digits, value))
-
-
-def make_offset(form: int, is_negative: int, hour: int, minute: int, second: int, digits: int, value: int) -> Union[Offset, _Utc]:
-    """Makes the Offset of a record, or returns Z. `form` is 1 for Z, 2 for an offset without seconds, and 3 for an offset with seconds."""
-    if form == 1:
-        return Z
-    sign = -1 if is_negative else 1
-    return Offset(sign, hour, minute) if form == 2 else Offset(sign, hour, minute, second, _fraction(digits, value))
-
-
-def make_zone(is_critical: int, name: Optional[str], is_negative: int, hour: int, minute: int) -> Zone:
-    """Makes the Zone of a record. If the name is None, the zone is an offset."""
-    return Zone(name, Offset(-1 if is_negative else 1, hour, minute) if name is None else None, bool(is_critical))
-
-
-def make_duration(
-    is_negative: int,
-    has_date: int,
-    years: int,
-    months: int,
-    weeks: int,
-    days: int,
-    last: int,
-    hours: int,
-    minutes: int,
-    seconds: int,
-    digits: int,
-    value: int,
-) -> Duration:
-    """Makes a Duration. `last` is the last unit of the time: 0 if there is no time, 1 for hours, 2 for minutes, and 3 for seconds."""
-    return Duration(
-        -1 if is_negative else 1,
-        years if has_date else None,
-        months if has_date else None,
-        weeks if has_date else None,
-        days if has_date else None,
-        hours if last > 0 else None,
-        minutes if last > 1 else None,
-        seconds if last > 2 else None,
-        _fraction(digits, value),
-    )
+def _microsecond(fraction: Optional[Fraction], truncate: bool) -> int:
+    """Returns the microseconds of a fraction of a second. If `truncate` is true, drops the digits after the sixth. Otherwise raises ValueError if the
+    number of microseconds is not whole, or if the fraction has more than 18 digits. Raises ValueError if its value has more digits than its field `digits`
+    says. No text gives such a fraction."""
+    if fraction is None:
+        return 0
+    known = min(fraction.digits, 18)
+    if fraction.value >= 10**known:
+        raise ValueError("the value of a fraction of the record has more digits than its field digits says")
+    whole, rest = divmod(fraction.value * 10**6, 10**known)
+    if (rest or fraction.digits > 18) and not truncate:
+        raise ValueError("the fraction of the record does not fit into the six digits of a datetime. With truncate=True, further digits are dropped.")
+    return int(whole)
 
 
 def describe(date: Any, time: Any, offset: Any, zone: Any, calendar: Any) -> str:
