@@ -131,7 +131,8 @@ CRATES = [
 WRITTEN_BY_HAND = {'rust/ixdtf/src/from_text.rs', 'rust/ixdtf/src/runtime.rs', 'rust/ixdtf_lines/src/main.rs', 'rust/ixdtf_check/src/main.rs',
                    'rust/ixdtf_c/src/abort.rs', 'rust/ixdtf_c/src/slices.rs', 'rust/ixdtf_buffers/src/place.rs'}
 DERIVES = {'Clone', 'Copy', 'Debug', 'Default', 'Eq', 'Hash', 'Ord', 'PartialEq', 'PartialOrd'}
-KEPT_ATTRIBUTES = {'inline', 'inline(always)', 'inline(never)', 'cold', 'doc(hidden)', 'allow(clippy::needless_match)'}
+KEPT_ATTRIBUTES = {'inline', 'inline(always)', 'inline(never)', 'cold', 'doc(hidden)', 'allow(clippy::needless_match)',
+                   'allow(clippy::needless_range_loop)'}
 TEST_ATTRIBUTES = {'test', 'cfg(test)'}
 # for a crate with functions for C: the attributes of its structs and functions, and the head of such a function
 EXPORT_ATTRIBUTES = {'repr(C)', 'unsafe(no_mangle)'}

@@ -9,6 +9,7 @@ pub mod JsonLemmas
 pub mod JsonStringLemmas
 pub mod MaskedLemmas
 pub mod NameLemmas
+pub mod NearestLemmas
 pub mod NumberLemmas
 pub mod PartsLemmas
 pub mod PointedLemmas

@@ -9,6 +9,7 @@ pub mod Json
 pub mod JsonStrings
 pub mod Kept
 pub mod Kinds
+pub mod Nearest
 pub mod Numbers
 pub mod Order
 pub mod Parts
