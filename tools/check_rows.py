@@ -530,13 +530,13 @@ def findings_in_edits() -> tuple[list[str], int]:
 
 # the crates of the library whose functions have code units
 LIBRARY = ('ixdtf_reading', 'ixdtf_times', 'ixdtf_brackets', 'ixdtf_durations', 'ixdtf')
-# The functions that may compare. The first one compares code units, and `has_same_units` counts these accesses. The second one compares a byte
-# with a byte that was read.
-COMPARE = {('cursor', 'are_equal'), ('cursor', 'fixed_letter')}
+# The functions that may compare, and how. The first one compares code units, and `has_same_units` counts these accesses. The second one compares
+# a byte with a byte that was read. The third one compares the code units of a key with `u-ca`, and counts these accesses.
+COMPARE = {('cursor', 'are_equal'): '==', ('cursor', 'fixed_letter'): '==', ('cursor', 'is_calendar_key'): 'check_calendar_key'}
 NO_CODE = re.compile(r'//[^\n]*|b?"(?:[^"\\]|\\.)*"')
 LITERAL = r"(?:b?'(?:[^'\\]|\\.)+'|\b\d\w*)"
 EQUALITY = re.compile(rf'({LITERAL})?\s*(?<![<>=!])([=!]=)(?!=)\s*({LITERAL})?')
-BY_METHOD = re.compile(r'(?:\.|::)(eq|ne|cmp|partial_cmp|starts_with|ends_with|contains|strip_prefix|strip_suffix)\s*(?:::<[^>]*>)?\(')
+BY_METHOD = re.compile(r'(?:\.|::)(check_calendar_key|eq|ne|cmp|partial_cmp|starts_with|ends_with|contains|strip_prefix|strip_suffix)\s*(?:::<[^>]*>)?\(')
 
 
 def comparisons_in(body: str) -> Iterator[str]:
@@ -547,12 +547,12 @@ def comparisons_in(body: str) -> Iterator[str]:
 
 
 def findings_in_comparisons(path: str, source: str) -> Iterator[str]:
-    """The functions of a source that compare, although they are not in `COMPARE`."""
+    """The comparisons of a source that are not in `COMPARE`."""
     file = os.path.splitext(os.path.basename(path))[0]
     for _, _, part in functions_in(source.splitlines()):
-        if part.kind == 'function' and (file, part.name) not in COMPARE:
-            yield from (f'{path}: {part.name} compares with `{mark}`. Only `has_same_units` may compare code units, because it counts the accesses'
-                        for mark in comparisons_in(part.text))
+        if part.kind == 'function':
+            yield from (f'{path}: {part.name} compares with `{mark}`. Only a function that counts the accesses may compare code units'
+                        for mark in comparisons_in(part.text) if mark != COMPARE.get((file, part.name)))
 
 
 def findings_in_readers() -> tuple[list[str], int]:

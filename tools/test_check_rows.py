@@ -266,7 +266,7 @@ class Comparisons(unittest.TestCase):
 
     def test_of_code_units(self):
         for body, mark in [('left == right', '=='), ('self.rest[0] != other[0]', '!='), ('key.eq(calendar)', 'eq'), ('PartialEq::ne(a, b)', 'ne'),
-                           ('rest.starts_with(key)', 'starts_with'), ('units.contains(&unit)', 'contains'), ('first.cmp(&second)', 'cmp')]:
+                           ('T::check_calendar_key(key)', 'check_calendar_key'), ('rest.starts_with(key)', 'starts_with'), ('units.contains(&unit)', 'contains'), ('first.cmp(&second)', 'cmp')]:
             self.assertEqual(self.marks(body), [mark], body)
 
     def test_who_may_compare(self):
@@ -274,8 +274,11 @@ class Comparisons(unittest.TestCase):
         self.assertEqual(list(check.findings_in_comparisons('crates/ixdtf_reading/src/cursor.rt', source)), [])
         for path in ['crates/ixdtf_reading/src/letters.rt', 'crates/ixdtf/src/parsers/replies.rt']:
             self.assertEqual(list(check.findings_in_comparisons(path, source)), [
-                f'{path}: are_equal compares with `==`. Only `has_same_units` may compare code units, because it counts the accesses'])
+                f'{path}: are_equal compares with `==`. Only a function that counts the accesses may compare code units'])
         self.assertTrue(list(check.findings_in_comparisons('crates/ixdtf_reading/src/cursor.rt', source.replace('are_equal', 'is_same'))))
+        counted = 'fn is_calendar_key(key: &[u8]) -> bool {\n    T::check_calendar_key(key)\n}\n'
+        self.assertEqual(list(check.findings_in_comparisons('crates/ixdtf_reading/src/cursor.rt', counted)), [])
+        self.assertTrue(list(check.findings_in_comparisons('crates/ixdtf/src/parsers/replies.rt', counted)))
 
 
 class Repository(unittest.TestCase):
