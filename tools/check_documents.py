@@ -42,12 +42,12 @@ EXCEPTIONS = {
     'must-fail/FILE.FUNCTION.what_it_does.edit': 'a pattern for the names of mutations',
 }
 # programs from outside: in a command of one of these, only paths are checked
-COMMANDS = ('rt', 'cargo', 'python3', 'bash', 'git', 'cd', 'gcc', 'clang', 'cc', 'wc', 'grep', 'nm', 'valgrind', 'rustc')
+COMMANDS = ('rt', 'cargo', 'python3', 'node', 'npm', 'bash', 'git', 'cd', 'gcc', 'clang', 'cc', 'wc', 'grep', 'nm', 'valgrind', 'rustc')
 # the column with names from the standards, and the columns with names that a document defines
 OF_STANDARDS = 'From'
 GIVEN = ('Class', 'Production')
 
-CODE = ('.rt', '.antt', '.rs', '.py', '.c', '.h', '.toml', '.txt', '.tsv', '.edit', '.sh')
+CODE = ('.rt', '.antt', '.rs', '.py', '.c', '.h', '.toml', '.txt', '.tsv', '.edit', '.sh', '.mjs', '.ts')
 EXTENSIONS = CODE + ('.md',)
 PASSED_OVER = {'.git', 'out', 'target', '__pycache__'}
 OWN_FILES = {'tools/check_documents.py', 'tools/test_check_documents.py'}
