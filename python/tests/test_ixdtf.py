@@ -962,7 +962,9 @@ class ManyTexts(unittest.TestCase):
             for code in "iqLQ":
                 for data in (joined, bytearray(joined)):
                     self.check(ixdtf.instants(data, errors="coerce", offsets=array.array(code, places)), expected)
-            self.assertEqual(ixdtf.is_valid_many(joined, offsets=array.array("i", places)).tolist(), valid)
+            unaligned = memoryview(b"x" + array.array("i", places).tobytes())[1:].cast("i")
+            for offsets in (array.array("i", places), unaligned):
+                self.assertEqual(ixdtf.is_valid_many(joined, offsets=offsets).tolist(), valid)
 
     def test_lines(self):
         for lines, count in ((b"", 0), (b"\n", 1), (b"\n\n", 2), (b"x", 1), (b"x\n", 1), (b"\r\n", 1), (b"\n" * 1000, 1000), (b"a" * 1000 + b"\n", 1), ("\u20ac\n2024-03-02", 2)):

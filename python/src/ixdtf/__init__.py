@@ -24,11 +24,11 @@ parse_zone_name and parse_duration. Five functions do something else:
     is_valid(text, kind)     says whether a text is accepted
     is_valid_many(texts)     says this for each of many texts
     instants(texts)          returns the times of many texts, as an array of numbers
-    canonical(value)         returns the canonical text of a record, a duration, an offset or a zone
+    canonical(value)         returns the canonical text of a record, a duration, an offset, a zone, an instant or a datetime
     instant(record)          returns the time from the beginning of 1970 (UTC) to the time of a record
 
-Record.to_datetime() makes a datetime, and Duration.to_timedelta() a timedelta. The page docs/PYTHON.md of the repository describes all of
-these.
+Record.to_datetime() makes a datetime, Record.from_datetime() makes a record of a datetime, and Duration.to_timedelta() makes a timedelta.
+The page docs/PYTHON.md of the repository describes all of these.
 """
 from ixdtf._datetimes import ZoneConflictError, ZoneNotFoundError
 from ixdtf._errors import IxdtfError

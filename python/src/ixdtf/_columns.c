@@ -145,14 +145,15 @@ static span item_of(const column *texts, Py_ssize_t i) {
 
 /* Writes the text between two offsets to `out`. Returns 0 if the offsets are wrong. */
 static int between(const column *texts, Py_ssize_t i, span *out) {
-    int64_t first, next;
+    const char *at = (const char *)texts->offsets.buf + i * texts->offsets.itemsize;
+    int32_t narrow[2];
+    int64_t wide[2];
     if (texts->offsets.itemsize == 4) {
-        first = ((const int32_t *)texts->offsets.buf)[i];
-        next = ((const int32_t *)texts->offsets.buf)[i + 1];
+        memcpy(narrow, at, sizeof narrow); /* the numbers need not be aligned */
     } else {
-        first = ((const int64_t *)texts->offsets.buf)[i];
-        next = ((const int64_t *)texts->offsets.buf)[i + 1];
+        memcpy(wide, at, sizeof wide);
     }
+    int64_t first = texts->offsets.itemsize == 4 ? narrow[0] : wide[0], next = texts->offsets.itemsize == 4 ? narrow[1] : wide[1];
     if (first < 0 || next < first || next > texts->end - texts->at) {
         return 0;
     }

@@ -1847,6 +1847,26 @@ static int take_names(const char *from, const char *const *names, PyObject **out
     return 0;
 }
 
+/* Makes the type Record. Returns 0, or -1 with an exception. */
+static int add_record_type(PyObject *module, module_state *state) {
+    state->record_type = PyType_FromModuleAndSpec(module, &record_spec, NULL);
+    if (state->record_type == NULL) {
+        return -1;
+    }
+    PyObject *arguments = Py_BuildValue("(sssss)", "date", "time", "offset", "zone", "calendar");
+    int failed = arguments == NULL || PyObject_SetAttrString(state->record_type, "__match_args__", arguments) < 0;
+    Py_XDECREF(arguments);
+    if (failed) {
+        return -1;
+    }
+    Py_INCREF(state->record_type);
+    if (PyModule_AddObject(module, "Record", state->record_type) < 0) {
+        Py_DECREF(state->record_type);
+        return -1;
+    }
+    return 0;
+}
+
 static int execute(PyObject *module) {
     module_state *state = state_of(module);
     static const char *const records[] = { "Fraction", "Date", "Time", "Offset", "Zone", "Annotation", "Duration", "Instant", "Instants", "Z", "describe" };
@@ -1872,22 +1892,7 @@ static int execute(PyObject *module) {
     if (state->zones == NULL || state->word_fromutc == NULL || state->word_utcoffset == NULL || state->word_key == NULL || state->word_zone == NULL) {
         return -1;
     }
-    state->record_type = PyType_FromModuleAndSpec(module, &record_spec, NULL);
-    if (state->record_type == NULL) {
-        return -1;
-    }
-    PyObject *arguments = Py_BuildValue("(sssss)", "date", "time", "offset", "zone", "calendar");
-    int failed = arguments == NULL || PyObject_SetAttrString(state->record_type, "__match_args__", arguments) < 0;
-    Py_XDECREF(arguments);
-    if (failed) {
-        return -1;
-    }
-    Py_INCREF(state->record_type);
-    if (PyModule_AddObject(module, "Record", state->record_type) < 0) {
-        Py_DECREF(state->record_type);
-        return -1;
-    }
-    return 0;
+    return add_record_type(module, state);
 }
 
 /* All members of module_state before `last_seconds` are references to objects. */

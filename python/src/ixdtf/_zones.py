@@ -1,5 +1,5 @@
 """Finds time zones by their names. This module imports zoneinfo, so it is imported only when a zone is needed for the first time: the import takes some
-milliseconds, and before CPython 3.12, zoneinfo fails in the main interpreter after it was imported in a sub-interpreter that has ended."""
+milliseconds, and in CPython 3.11, zoneinfo fails in the main interpreter after it was imported in a sub-interpreter that has ended."""
 from __future__ import annotations
 
 from typing import Any
