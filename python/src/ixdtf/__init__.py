@@ -30,9 +30,9 @@ parse_zone_name and parse_duration. Five functions do something else:
 Record.to_datetime() makes a datetime, Record.from_datetime() makes a record of a datetime, and Duration.to_timedelta() makes a timedelta.
 The page docs/PYTHON.md of the repository describes all of these.
 """
+from ixdtf import _pydantic
 from ixdtf._datetimes import ZoneConflictError, ZoneNotFoundError
 from ixdtf._errors import IxdtfError
-from ixdtf._pydantic import core_schema, json_schema
 from ixdtf._reader import (
     Record,
     canonical,
@@ -55,8 +55,8 @@ from ixdtf._records import Annotation, Date, Duration, DurationTooLongError, Fra
 
 # With these methods, pydantic 2 accepts these classes as the types of fields.
 for _kind in (Record, Duration, Offset, Zone):
-    setattr(_kind, "__get_pydantic_core_schema__", classmethod(core_schema))
-    setattr(_kind, "__get_pydantic_json_schema__", classmethod(json_schema))
+    setattr(_kind, "__get_pydantic_core_schema__", classmethod(_pydantic.core_schema))
+    setattr(_kind, "__get_pydantic_json_schema__", classmethod(_pydantic.json_schema))
 
 # The version of the package. pyproject.toml reads it from here.
 __version__ = "0.6.7"
