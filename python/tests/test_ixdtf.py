@@ -12,6 +12,7 @@ import pickle
 import random
 import sys
 import threading
+import time
 import typing
 import unittest
 import warnings
@@ -1108,6 +1109,30 @@ class ManyTexts(unittest.TestCase):
         for thread in threads:
             thread.join()
         self.assertEqual(failed, [])
+
+    def test_lock(self):
+        """Other threads run while many lines are read. No thread is made to give up the lock of the interpreter, because the interval for this is long."""
+        lines, steps = b"2024-03-02T00:00:00Z\n" * 400_000, []
+
+        def work():
+            steps.append("begun")
+            ixdtf.is_valid_many(lines)
+            steps.append("ended")
+
+        interval = sys.getswitchinterval()
+        self.addCleanup(sys.setswitchinterval, interval)
+        sys.setswitchinterval(1000)
+        for _ in range(50):  # On a busy machine, this thread may not run in time.
+            steps.clear()
+            thread = threading.Thread(target=work)
+            thread.start()
+            while not steps:
+                time.sleep(0)
+            seen = list(steps)
+            thread.join()
+            if seen == ["begun"]:
+                return
+        self.fail("no other thread has run while the lines were read")
 
     def test_buffer_that_changes(self):
         """Another thread writes to the buffer while it is read. Each text is read from a copy, and the buffer cannot get shorter."""
