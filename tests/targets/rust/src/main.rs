@@ -8,6 +8,7 @@ use ixdtf::records::{
     UtcOffsetRecordOrZ,
 };
 use ixdtf::{LocatedError, ParseError, ParserResult};
+use ixdtf_print::{CanonicalDuration, CanonicalOffset, PrintError};
 use std::fmt::Write as _;
 use std::io::{self, BufRead, Write};
 use width::{Narrow, Wide, Width};
@@ -180,23 +181,49 @@ fn fields<W: Width>(it: &Found<'_, W>) -> String {
 
 // ==== Answers ====
 
-/// The canonical text, if there is a printer for what the reader returns. It is read back as the same value.
+/// The printer for what a reader returns.
+fn print<W: Width>(reader: &str, found: &Found<'_, W>, out: &mut [W::Unit]) -> Option<Result<usize, PrintError>> {
+    Some(match (reader, found) {
+        ("parse" | "rfc3339" | "rfc9557", Found::Parts(it)) => W::print(it, out),
+        ("year-month", Found::Parts(it)) => W::print_year_month(it, out),
+        ("month-day", Found::Parts(it)) => W::print_month_day(it, out),
+        ("time", Found::Parts(it)) => W::print_time(it, out),
+        (_, Found::Offset(it)) => W::print_offset(it, out),
+        (_, Found::Zone(it)) => W::print_zone(it, out),
+        (_, Found::Duration(it)) => W::print_duration(it, out),
+        _ => return None,
+    })
+}
+
+/// The length of the canonical text, and what `Display` writes, if there is a type that displays it.
+fn length_and_display<W: Width>(reader: &str, found: &Found<'_, W>) -> (Option<usize>, Option<String>) {
+    match (reader, found) {
+        ("year-month", Found::Parts(it)) => (W::year_month_length(it), W::displayed_year_month(it)),
+        ("month-day", Found::Parts(it)) => (W::month_day_length(it), W::displayed_month_day(it)),
+        ("time", Found::Parts(it)) => (W::time_length(it), W::displayed_time(it)),
+        (_, Found::Parts(it)) => (W::length(it), W::displayed(it)),
+        (_, Found::Offset(it)) => (ixdtf_print::offset_length(it), CanonicalOffset::of(it).map(|it| it.to_string())),
+        (_, Found::Zone(it)) => (W::zone_length(it), W::displayed_zone(it)),
+        (_, Found::Duration(it)) => (ixdtf_print::duration_length(it), CanonicalDuration::of(it).map(|it| it.to_string())),
+        (_, Found::Name(_)) => (None, None),
+    }
+}
+
+/// The canonical text, if there is a printer for what the reader returns. It is read back as the same value, its length is known
+/// before, and a slice that is too short stays as it was.
 fn canonical<W: Width>(reader: &str, found: &Found<'_, W>) -> Option<String> {
     let mut out = [W::unit(0); 1024];
-    let count = match (reader, found) {
-        ("parse" | "rfc3339" | "rfc9557", Found::Parts(it)) => W::print(it, &mut out),
-        ("year-month", Found::Parts(it)) => W::print_year_month(it, &mut out),
-        ("month-day", Found::Parts(it)) => W::print_month_day(it, &mut out),
-        ("time", Found::Parts(it)) => W::print_time(it, &mut out),
-        (_, Found::Offset(it)) => W::print_offset(it, &mut out),
-        (_, Found::Zone(it)) => W::print_zone(it, &mut out),
-        (_, Found::Duration(it)) => W::print_duration(it, &mut out),
-        _ => return None,
-    }
-    .expect("a value that was read has a canonical text");
+    let count = print(reader, found, &mut out)?.expect("a value that was read has a canonical text");
     let profile = if reader == "time" { Profile::Strict } else { Profile::Crate };
     assert!(read::<W>(reader, profile, &out[..count]).0.as_ref() == Ok(found), "the canonical text is read as the same value");
-    Some(W::shown(&out[..count]))
+    let text = W::shown(&out[..count]);
+    let (length, displayed) = length_and_display(reader, found);
+    assert_eq!(length, Some(count), "the length is that of the canonical text");
+    assert!(displayed.is_none_or(|it| it == text), "`Display` writes the canonical text");
+    let mut short = vec![W::unit(1); count - 1];
+    assert_eq!(print(reader, found, &mut short), Some(Err(PrintError::TooShort)), "one code unit is missing");
+    assert!(short.iter().all(|it| *it == W::unit(1)), "a slice that is too short stays as it was");
+    Some(text)
 }
 
 fn accepted<W: Width>(reader: &str, found: &Found<'_, W>) -> String {

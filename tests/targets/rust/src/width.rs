@@ -29,6 +29,19 @@ pub trait Width: Sized + PartialEq + 'static {
     fn print_zone(it: &TimeZoneRecord<'_, Self::Encoding>, out: &mut [Self::Unit]) -> Printed;
     fn print_duration(it: &DurationParseRecord, out: &mut [Self::Unit]) -> Printed;
 
+    fn length(it: &Record<'_, Self>) -> Option<usize>;
+    fn year_month_length(it: &Record<'_, Self>) -> Option<usize>;
+    fn month_day_length(it: &Record<'_, Self>) -> Option<usize>;
+    fn time_length(it: &Record<'_, Self>) -> Option<usize>;
+    fn zone_length(it: &TimeZoneRecord<'_, Self::Encoding>) -> Option<usize>;
+
+    /// What `Display` writes of the canonical text of a record or a zone. There is none for 16-bit code units.
+    fn displayed(it: &Record<'_, Self>) -> Option<String>;
+    fn displayed_year_month(it: &Record<'_, Self>) -> Option<String>;
+    fn displayed_month_day(it: &Record<'_, Self>) -> Option<String>;
+    fn displayed_time(it: &Record<'_, Self>) -> Option<String>;
+    fn displayed_zone(it: &TimeZoneRecord<'_, Self::Encoding>) -> Option<String>;
+
     /// Code units of a text that was accepted. They are ASCII.
     fn shown(units: &[Self::Unit]) -> String {
         units.iter().map(|unit| char::from(u8::try_from(Self::number(*unit)).unwrap())).collect()
@@ -72,8 +85,48 @@ macro_rules! printers {
     };
 }
 
+macro_rules! lengths {
+    ($encoding:ty, $record:ident, $year_month:ident, $month_day:ident, $time:ident, $zone:ident) => {
+        fn length(it: &Record<'_, Self>) -> Option<usize> {
+            print::$record(it)
+        }
+        fn year_month_length(it: &Record<'_, Self>) -> Option<usize> {
+            print::$year_month(it)
+        }
+        fn month_day_length(it: &Record<'_, Self>) -> Option<usize> {
+            print::$month_day(it)
+        }
+        fn time_length(it: &Record<'_, Self>) -> Option<usize> {
+            print::$time(it)
+        }
+        fn zone_length(it: &TimeZoneRecord<'_, $encoding>) -> Option<usize> {
+            print::$zone(it)
+        }
+    };
+}
+
+/// A function that displays a value, if there is a type that does.
+macro_rules! display {
+    ($name:ident, $value:ty) => {
+        fn $name(_: &$value) -> Option<String> {
+            None
+        }
+    };
+    ($name:ident, $value:ty, $canonical:ident) => {
+        fn $name(it: &$value) -> Option<String> {
+            print::$canonical::of(it).map(|it| it.to_string())
+        }
+    };
+}
+
 impl Width for Narrow {
     printers!(u8, Utf8, print, print_year_month, print_month_day, print_time, print_offset, print_zone, print_duration);
+    lengths!(Utf8, printed_length, year_month_length, month_day_length, time_length, zone_length);
+    display!(displayed, Record<'_, Self>, Canonical);
+    display!(displayed_year_month, Record<'_, Self>, CanonicalYearMonth);
+    display!(displayed_month_day, Record<'_, Self>, CanonicalMonthDay);
+    display!(displayed_time, Record<'_, Self>, CanonicalTime);
+    display!(displayed_zone, TimeZoneRecord<'_, Utf8>, CanonicalZone);
 
     fn unit(number: u16) -> u8 {
         u8::try_from(number).unwrap()
@@ -107,6 +160,12 @@ impl Width for Wide {
         print_zone_utf16,
         print_duration_utf16
     );
+    lengths!(Utf16, printed_length_utf16, year_month_length_utf16, month_day_length_utf16, time_length_utf16, zone_length_utf16);
+    display!(displayed, Record<'_, Self>);
+    display!(displayed_year_month, Record<'_, Self>);
+    display!(displayed_month_day, Record<'_, Self>);
+    display!(displayed_time, Record<'_, Self>);
+    display!(displayed_zone, TimeZoneRecord<'_, Utf16>);
 
     fn unit(number: u16) -> u16 {
         number
