@@ -7,7 +7,7 @@ use ixdtf::records::{
     Annotation, DateRecord, DurationParseRecord, Fraction, IxdtfParseRecord, MinutePrecisionOffset, Sign, TimeDurationRecord, TimeRecord, TimeZoneRecord, UtcOffsetRecord,
     UtcOffsetRecordOrZ,
 };
-use ixdtf::{LocatedError, ParseError, ParserResult};
+use ixdtf::{Instant, LocatedError, ParseError, ParserResult};
 use ixdtf_print::{CanonicalDuration, CanonicalOffset, PrintError};
 use std::fmt::Write as _;
 use std::io::{self, BufRead, Write};
@@ -212,7 +212,7 @@ fn length_and_display<W: Width>(reader: &str, found: &Found<'_, W>) -> (Option<u
 /// The canonical text, if there is a printer for what the reader returns. It is read back as the same value, its length is known
 /// before, and a slice that is too short stays as it was.
 fn canonical<W: Width>(reader: &str, found: &Found<'_, W>) -> Option<String> {
-    let mut out = [W::unit(0); 1024];
+    let mut out = [W::unit(0); 4096];
     let count = print(reader, found, &mut out)?.expect("a value that was read has a canonical text");
     let profile = if reader == "time" { Profile::Strict } else { Profile::Crate };
     assert!(read::<W>(reader, profile, &out[..count]).0.as_ref() == Ok(found), "the canonical text is read as the same value");
@@ -226,13 +226,20 @@ fn canonical<W: Width>(reader: &str, found: &Found<'_, W>) -> Option<String> {
     Some(text)
 }
 
+/// The instant of the text that `Display` writes for an instant.
+fn read_back(it: Instant) -> Option<Instant> {
+    IxdtfParser::from_str(&it.to_string()).parse().ok()?.instant()
+}
+
 fn accepted<W: Width>(reader: &str, found: &Found<'_, W>) -> String {
     let mut cells = format!("fields={}", fields(found));
     if let Some(text) = canonical(reader, found) {
         write!(cells, "\tcanonical={text}").unwrap();
     }
     if let Found::Parts(it) = found {
-        let instant = it.instant().map_or("none".to_string(), |it| format!("{},{}", it.seconds, it.nanoseconds));
+        let instant = it.instant();
+        assert_eq!(instant.and_then(read_back), instant, "an instant is displayed as a text that has this instant");
+        let instant = instant.map_or("none".to_string(), |it| format!("{},{}", it.seconds, it.nanoseconds));
         write!(cells, "\tinstant={instant}").unwrap();
     }
     cells
