@@ -35,7 +35,7 @@ static void is(const char *found, const char *wanted, const char *reader, const 
 }
 
 /* A line of text, to which `show` appends. */
-struct line { char text[2048]; size_t length; };
+struct line { char text[8192]; size_t length; };
 
 static void show(struct line *line, const char *format, ...) {
     va_list parts;
@@ -44,7 +44,7 @@ static void show(struct line *line, const char *format, ...) {
     written = vsnprintf(line->text + line->length, sizeof(line->text) - line->length, format, parts);
     va_end(parts);
     if (written < 0 || (size_t)written >= sizeof(line->text) - line->length) {
-        puts("expected a line of at most 2047 bytes; make struct line larger");
+        puts("expected a line of at most 8191 bytes; make struct line larger");
         exit(2);
     }
     line->length += (size_t)written;

@@ -1,13 +1,13 @@
 /* The tests of the printers for one width of code units. test.c includes this file twice, each time after test_width.h, and with the same macros. */
 
 /* The code units of the text that is read. The slices of the record point to it. */
-static UNIT OWN(text_units)[1024];
+static UNIT OWN(text_units)[2048];
 
 /* Writes a text to the array above, as code units. Returns the number of code units. */
 static size_t OWN(units_of)(const char *text, size_t length) {
     size_t i;
     if (length > COUNT(OWN(text_units))) {
-        puts("expected a text of at most 1024 code units; make text_units larger");
+        puts("expected a text of at most 2048 code units; make text_units larger");
         exit(2);
     }
     for (i = 0; i < length; i++) {
@@ -415,7 +415,7 @@ static void OWN(test_read_back)(const struct row *row, size_t length) {
     enum printer printer = OF_RECORD;
     const void *value;
     struct line line, wanted;
-    UNIT out[1024];
+    UNIT out[2048];
     size_t count = 0, more = 0;
     /* The printer writes to the array in which the text is, so the text is read from another one. */
     memcpy(OWN(text_units), room + ROOM - length * sizeof(UNIT), length * sizeof(UNIT));

@@ -16,7 +16,7 @@ enum { MOST_CELLS = 16 };
 /* A table that is being read: the names of its columns, and the cells of one line. */
 struct table {
     FILE *lines;
-    char names_line[256], line[1024];
+    char names_line[256], line[8192];
     char *names[MOST_CELLS], *cells[MOST_CELLS];
     size_t count;
 };

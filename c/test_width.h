@@ -409,7 +409,7 @@ static void OWN(test_same_listing)(const struct row *row) {
 static void OWN(test_explained)(const struct row *row, const UNIT *text, size_t length, uint32_t error) {
     ixdtf_explanation it = { 1, 2, 3, 4, 5 };
     char part[64];
-    uint8_t bytes[3 * 1024];
+    uint8_t bytes[3 * 2048];
     size_t count = 0, i;
     uint32_t lists = reader_number(row->reader, row->strict, 1);
     check(CALL(explain)(reader_number(row->reader, row->strict, 0), text, length, &it) == error && it.error == error, "ixdtf_explain returns what the reader returns");
