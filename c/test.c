@@ -667,6 +667,8 @@ static void test_reports(void) {
         { "2024-13-01", "the month is 13, and has to be 01 to 12\n2024-13-01\n     ^^" },
         { "2020-1\xe9-01", "expected a digit of the month, which has two, found the byte 0xE9\n2020-1\n      ^" },
         { "2024-03-02\n", "expected `T`, a space, `[` or the end after the date, found a newline\n2024-03-02.\n          ^\nhint: remove the white space at the end" },
+        { "2024-03-02 um acht Uhr in der Stadt Mainz",
+            "expected a digit of the hour, which has two, found `u`\n2024-03-02 um acht Uhr in der Stadt..\n           ^" },
         { "", "the text is empty; expected a year of four digits\n\n^" },
         { "2024-3-02", "expected a digit of the month, which has two, found `-`\n2024-3-02\n      ^\nhint: write the month as `03`" },
     };
