@@ -16,7 +16,7 @@ it undoes the change. It prints one line for each mutation, with its path and on
     not tried       its text is no longer in the sources, or it is no body of the programs: it changes a definition, or the library for C
 
 The last line has the count of each result. The copy lies in FOLDER, which must be empty, or else in a temporary folder. The exit status is
-1 if nothing sees a mutation, and 2 if the sources without a mutation fail. One mutation takes about half a minute."""
+1 if nothing sees a mutation, and 2 if the sources without a mutation fail. One mutation takes about ten seconds."""
 import argparse
 import glob
 import os

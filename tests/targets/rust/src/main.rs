@@ -11,7 +11,7 @@ use ixdtf::{Instant, LocatedError, ParseError, ParserResult};
 use ixdtf_print::{CanonicalDuration, CanonicalOffset, PrintError};
 use std::fmt::Write as _;
 use std::io::{self, BufRead, Write};
-use width::{Narrow, Wide, Width};
+use width::{Displayed, Narrow, Wide, Width};
 
 /// A value that a reader returned.
 #[derive(PartialEq)]
@@ -195,16 +195,16 @@ fn print<W: Width>(reader: &str, found: &Found<'_, W>, out: &mut [W::Unit]) -> O
     })
 }
 
-/// The length of the canonical text, and what `Display` writes, if there is a type that displays it.
-fn length_and_display<W: Width>(reader: &str, found: &Found<'_, W>) -> (Option<usize>, Option<String>) {
+/// The length of the canonical text, and what `Display` writes.
+fn length_and_display<W: Width>(reader: &str, found: &Found<'_, W>) -> (Option<usize>, Displayed) {
     match (reader, found) {
         ("year-month", Found::Parts(it)) => (W::year_month_length(it), W::displayed_year_month(it)),
         ("month-day", Found::Parts(it)) => (W::month_day_length(it), W::displayed_month_day(it)),
         ("time", Found::Parts(it)) => (W::time_length(it), W::displayed_time(it)),
         (_, Found::Parts(it)) => (W::length(it), W::displayed(it)),
-        (_, Found::Offset(it)) => (ixdtf_print::offset_length(it), CanonicalOffset::of(it).map(|it| it.to_string())),
+        (_, Found::Offset(it)) => (ixdtf_print::offset_length(it), Some(CanonicalOffset::of(it).map(|it| it.to_string()))),
         (_, Found::Zone(it)) => (W::zone_length(it), W::displayed_zone(it)),
-        (_, Found::Duration(it)) => (ixdtf_print::duration_length(it), CanonicalDuration::of(it).map(|it| it.to_string())),
+        (_, Found::Duration(it)) => (ixdtf_print::duration_length(it), Some(CanonicalDuration::of(it).map(|it| it.to_string()))),
         (_, Found::Name(_)) => (None, None),
     }
 }
@@ -219,7 +219,7 @@ fn canonical<W: Width>(reader: &str, found: &Found<'_, W>) -> Option<String> {
     let text = W::shown(&out[..count]);
     let (length, displayed) = length_and_display(reader, found);
     assert_eq!(length, Some(count), "the length is that of the canonical text");
-    assert!(displayed.is_none_or(|it| it == text), "`Display` writes the canonical text");
+    assert!(displayed.is_none_or(|it| it.as_ref() == Some(&text)), "`Display` writes the canonical text");
     let mut short = vec![W::unit(1); count - 1];
     assert_eq!(print(reader, found, &mut short), Some(Err(PrintError::TooShort)), "one code unit is missing");
     assert!(short.iter().all(|it| *it == W::unit(1)), "a slice that is too short stays as it was");

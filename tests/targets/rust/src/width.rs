@@ -5,6 +5,8 @@ use ixdtf_print as print;
 
 type Record<'a, W> = IxdtfParseRecord<'a, <W as Width>::Encoding>;
 type Printed = Result<usize, print::PrintError>;
+/// What `Display` writes of the canonical text, if there is one. There is no `Display` for 16-bit code units.
+pub type Displayed = Option<Option<String>>;
 
 /// A width: its code units, and its printers.
 pub trait Width: Sized + PartialEq + 'static {
@@ -35,12 +37,11 @@ pub trait Width: Sized + PartialEq + 'static {
     fn time_length(it: &Record<'_, Self>) -> Option<usize>;
     fn zone_length(it: &TimeZoneRecord<'_, Self::Encoding>) -> Option<usize>;
 
-    /// What `Display` writes of the canonical text of a record or a zone. There is none for 16-bit code units.
-    fn displayed(it: &Record<'_, Self>) -> Option<String>;
-    fn displayed_year_month(it: &Record<'_, Self>) -> Option<String>;
-    fn displayed_month_day(it: &Record<'_, Self>) -> Option<String>;
-    fn displayed_time(it: &Record<'_, Self>) -> Option<String>;
-    fn displayed_zone(it: &TimeZoneRecord<'_, Self::Encoding>) -> Option<String>;
+    fn displayed(it: &Record<'_, Self>) -> Displayed;
+    fn displayed_year_month(it: &Record<'_, Self>) -> Displayed;
+    fn displayed_month_day(it: &Record<'_, Self>) -> Displayed;
+    fn displayed_time(it: &Record<'_, Self>) -> Displayed;
+    fn displayed_zone(it: &TimeZoneRecord<'_, Self::Encoding>) -> Displayed;
 
     /// Code units of a text that was accepted. They are ASCII.
     fn shown(units: &[Self::Unit]) -> String {
@@ -108,13 +109,13 @@ macro_rules! lengths {
 /// A function that displays a value, if there is a type that does.
 macro_rules! display {
     ($name:ident, $value:ty) => {
-        fn $name(_: &$value) -> Option<String> {
+        fn $name(_: &$value) -> Displayed {
             None
         }
     };
     ($name:ident, $value:ty, $canonical:ident) => {
-        fn $name(it: &$value) -> Option<String> {
-            print::$canonical::of(it).map(|it| it.to_string())
+        fn $name(it: &$value) -> Displayed {
+            Some(print::$canonical::of(it).map(|it| it.to_string()))
         }
     };
 }
