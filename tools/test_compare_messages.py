@@ -182,11 +182,14 @@ class Comparison(unittest.TestCase):
                 self.assertEqual(self.answer(reader, units, wide).split('\t')[6], hint, (text, wide))
 
     def test_other_leap_years(self):
-        """If the model has a leap day in 1900, or none in 2000, this is a difference."""
+        """If the model has a leap day in 1900, or none in 2000, this is a difference. The texts are made only from dates that do not exist."""
         right = reasons.last_day
-        for year, days in (('1900', 29), ('2000', 28)):
-            with mock.patch.object(reasons, 'last_day', lambda line, front: days if f'{year}-02-' in front else right(line, front)):
-                self.find(year, 3000)
+        dates = [(case, list(it.encode())) for case in compare_messages.CASES if case.reader in compare_messages.WITH_DATES
+                 for it in compare_messages.NO_LEAP_DAYS]
+        with mock.patch.object(compare_messages, 'rows_of_cases', lambda wide: dates):
+            for year, days in (('1900', 29), ('2000', 28)):
+                with mock.patch.object(reasons, 'last_day', lambda line, front: days if f'{year}-02-' in front else right(line, front)):
+                    self.find(year)
 
     def test_wrong_errors(self):
         """Another error and another position in the model are differences. So is a text that only the model refuses, or only the reader."""
